@@ -1,0 +1,9 @@
+pub mod Outside
+pub mod Faults
+pub mod Passing
+pub mod Asking
+pub mod Carrying
+pub mod Fetching
+pub mod Steps
+pub mod Grants
+pub mod Inspecting

@@ -1,0 +1,3 @@
+-- Lemmas on memories.
+pub mod Eight
+pub mod Lent

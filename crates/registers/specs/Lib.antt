@@ -1,0 +1,6 @@
+pub mod Refusals
+pub mod Modes
+pub mod Channels
+pub mod Groups
+pub mod Ports
+pub mod File
