@@ -42,6 +42,15 @@ impl BusRefusal {
     }
 }
 
+impl Grant {
+    // The channel that the bus is lent on.
+    pub fn channel(&self) -> u8
+        ensures { λ r. ⌜ r ≡ now (self .entry) .channel ⌝ }
+    {
+        self.channel
+    }
+}
+
 // A memory's answer, as a bus master sees it.
 fn seen<T>(answer: Result<T, MemoryFault>) -> Result<T, BusRefusal>
     ensures { λ r. ⌜ r ≡ seenBy answer ⌝ }

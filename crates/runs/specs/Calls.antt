@@ -63,3 +63,14 @@ ended s (k ∷ ks) = ended (performed s k .0) ks
 
 abbrev pub answersOf : List Turn → List Answer
 answersOf h = map (λ (t : Turn). t .answer) h
+
+-- a call that reaches neither memory nor bank
+abbrev pub Inside : Call → Type 0
+Inside (call.Write p v) = Unit {0}
+Inside (call.Read p) = Unit {0}
+Inside (call.Lines b) = Unit {0}
+Inside call.Step = ⊥
+Inside (call.Inspect c) = Unit {0}
+Inside call.Take = Unit {0}
+Inside (call.Cycle x) = ⊥
+Inside call.Release = Unit {0}
