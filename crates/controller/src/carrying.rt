@@ -98,7 +98,7 @@ fn store<M: Memory>(memory: &mut M, channel: u8, addressing: Addressing, address
     ensures answer { λ r. ⌜ r ≡ Ok tt ⌝ }
     ensures kinds { λ _. ⌜ kindAt (now (memory .exit)) ≡ kindAt (now (memory .entry)) ⌝ }
     ensures bytes { λ _. ⌜ byteAt (now (memory .exit)) ≡ storedUnit addressing (byteAt (now (memory .entry))) address unit ⌝ }
-    ensures lenders { λ _. ⌜ lent (now (memory .exit)) ≡ lent (now (memory .entry)) ⌝ }
+    ensures lenders { λ _. ⌜ fixed (now (memory .exit)) ≡ fixed (now (memory .entry)) ⌝ }
 {
     let [low, high] = unit.to_le_bytes();
     at_memory(memory.write(address, low), channel, address)?;
@@ -114,7 +114,7 @@ fn store<M: Memory>(memory: &mut M, channel: u8, addressing: Addressing, address
 // A unit from a device to memory.
 fn carry_in<M: Memory, B: PortBank>(memory: &mut M, bank: &mut B, channel: u8, addressing: Addressing, address: u32) -> Result<u16, Fault>
     ensures does { λ r. ⌜ Does (takeIn (outside (kindAt (now (memory .entry))) (byteAt (now (memory .entry))) (waiting (now (bank .entry))) (kept (now (bank .entry))) (free (now (bank .entry)))) channel addressing address (offered (outside (kindAt (now (memory .entry))) (byteAt (now (memory .entry))) (waiting (now (bank .entry))) (kept (now (bank .entry))) (free (now (bank .entry)))) channel addressing address)) (outside (kindAt (now (memory .exit))) (byteAt (now (memory .exit))) (waiting (now (bank .exit))) (kept (now (bank .exit))) (free (now (bank .exit)))) r ⌝ }
-    ensures lenders { λ _. ⌜ lent (now (memory .exit)) ≡ lent (now (memory .entry)) ⌝ }
+    ensures lenders { λ _. ⌜ fixed (now (memory .exit)) ≡ fixed (now (memory .entry)) ⌝ }
 {
     let unit = offer(memory, bank, channel, addressing, address)?;
     at_port(bank.take(channel), channel, address)?;
@@ -150,7 +150,7 @@ fn carry_out<M: Memory, B: PortBank>(memory: &M, bank: &mut B, channel: u8, addr
 // A transfer of one unit.
 pub(crate) fn carry<M: Memory, B: PortBank>(transfer: Transfer, memory: &mut M, bank: &mut B, channel: u8, addressing: Addressing, address: u32) -> Result<u16, Fault>
     ensures does { λ r. ⌜ Does (carried transfer (outside (kindAt (now (memory .entry))) (byteAt (now (memory .entry))) (waiting (now (bank .entry))) (kept (now (bank .entry))) (free (now (bank .entry)))) channel addressing address) (outside (kindAt (now (memory .exit))) (byteAt (now (memory .exit))) (waiting (now (bank .exit))) (kept (now (bank .exit))) (free (now (bank .exit)))) r ⌝ }
-    ensures lenders { λ _. ⌜ lent (now (memory .exit)) ≡ lent (now (memory .entry)) ⌝ }
+    ensures lenders { λ _. ⌜ fixed (now (memory .exit)) ≡ fixed (now (memory .entry)) ⌝ }
 {
     match transfer {
         Transfer::Verify => Ok(0),

@@ -93,7 +93,7 @@ impl Controller {
         ensures state { λ _. ⌜ ((o : Outside) → o .kinds ≡ kindAt (now (memory .entry)) → o .bytes ≡ byteAt (now (memory .entry)) → stateOf (now (self .entry)) (outside (kindAt (now (memory .exit))) (byteAt (now (memory .exit))) (o .waiting) (o .kept) (o .free)) ≡ afterCycle (now (grant .entry) .channel) cycle (stateOf (now (self .entry)) o)) ⌝ }
         ensures answer { λ r. ⌜ ((o : Outside) → o .kinds ≡ kindAt (now (memory .entry)) → shownBus r ≡ cycleNumber (stateOf (now (self .entry)) o) (now (grant .entry) .channel) cycle) ⌝ }
         ensures value { λ r. ⌜ ((o : Outside) → o .kinds ≡ kindAt (now (memory .entry)) → o .bytes ≡ byteAt (now (memory .entry)) → byteIn r ≡ cycleValue (stateOf (now (self .entry)) o) (now (grant .entry) .channel) cycle) ⌝ }
-        ensures lenders { λ _. ⌜ lent (now (memory .exit)) ≡ lent (now (memory .entry)) ⌝ }
+        ensures lenders { λ _. ⌜ fixed (now (memory .exit)) ≡ fixed (now (memory .entry)) ⌝ }
     {
         if !self.holds(grant.channel) {
             return Err(BusRefusal::NotGranted);

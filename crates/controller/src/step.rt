@@ -41,7 +41,7 @@ impl Controller {
     // A transfer of a channel's unit; a fault leaves everything.
     fn transfer<M: Memory, B: PortBank>(&mut self, c: u8, memory: &mut M, bank: &mut B) -> Result<Event, Fault>
         ensures does { λ r. ⌜ Does (transferOf (stateOf (now (self .entry)) (outside (kindAt (now (memory .entry))) (byteAt (now (memory .entry))) (waiting (now (bank .entry))) (kept (now (bank .entry))) (free (now (bank .entry))))) c) (stateOf (now (self .exit)) (outside (kindAt (now (memory .exit))) (byteAt (now (memory .exit))) (waiting (now (bank .exit))) (kept (now (bank .exit))) (free (now (bank .exit))))) r ⌝ }
-        ensures lenders { λ _. ⌜ lent (now (memory .exit)) ≡ lent (now (memory .entry)) ⌝ }
+        ensures lenders { λ _. ⌜ fixed (now (memory .exit)) ≡ fixed (now (memory .entry)) ⌝ }
     {
         let channel = self.registers.channel(c);
         let at = address(channel);
@@ -65,7 +65,7 @@ impl Controller {
     // What a channel in service does: it lends the bus, fetches, or transfers.
     fn work<M: Memory, B: PortBank>(&mut self, c: u8, memory: &mut M, bank: &mut B) -> Result<Event, Fault>
         ensures does { λ r. ⌜ Does (serviceOf (stateOf (now (self .entry)) (outside (kindAt (now (memory .entry))) (byteAt (now (memory .entry))) (waiting (now (bank .entry))) (kept (now (bank .entry))) (free (now (bank .entry))))) c) (stateOf (now (self .exit)) (outside (kindAt (now (memory .exit))) (byteAt (now (memory .exit))) (waiting (now (bank .exit))) (kept (now (bank .exit))) (free (now (bank .exit))))) r ⌝ }
-        ensures lenders { λ _. ⌜ lent (now (memory .exit)) ≡ lent (now (memory .entry)) ⌝ }
+        ensures lenders { λ _. ⌜ fixed (now (memory .exit)) ≡ fixed (now (memory .entry)) ⌝ }
     {
         let channel = self.registers.channel(c);
         if let Service::Cascade = channel.mode.service {
@@ -93,7 +93,7 @@ impl Controller {
     // A channel in service.
     fn serve<M: Memory, B: PortBank>(&mut self, c: u8, memory: &mut M, bank: &mut B) -> Result<Event, Fault>
         ensures does { λ r. ⌜ Does (serve (stateOf (now (self .entry)) (outside (kindAt (now (memory .entry))) (byteAt (now (memory .entry))) (waiting (now (bank .entry))) (kept (now (bank .entry))) (free (now (bank .entry))))) c) (stateOf (now (self .exit)) (outside (kindAt (now (memory .exit))) (byteAt (now (memory .exit))) (waiting (now (bank .exit))) (kept (now (bank .exit))) (free (now (bank .exit))))) r ⌝ }
-        ensures lenders { λ _. ⌜ lent (now (memory .exit)) ≡ lent (now (memory .entry)) ⌝ }
+        ensures lenders { λ _. ⌜ fixed (now (memory .exit)) ≡ fixed (now (memory .entry)) ⌝ }
     {
         let outcome = self.work(c, memory, bank);
         self.settle(c, outcome)
@@ -126,7 +126,7 @@ impl Controller {
     // A channel is chosen, or nobody asks.
     fn choose_anew<M: Memory, B: PortBank>(&mut self, memory: &mut M, bank: &mut B) -> Result<Event, Fault>
         ensures does { λ r. ⌜ Does (chooseOf (stateOf (now (self .entry)) (outside (kindAt (now (memory .entry))) (byteAt (now (memory .entry))) (waiting (now (bank .entry))) (kept (now (bank .entry))) (free (now (bank .entry))))) (choiceOf (now (self .entry) .registers))) (stateOf (now (self .exit)) (outside (kindAt (now (memory .exit))) (byteAt (now (memory .exit))) (waiting (now (bank .exit))) (kept (now (bank .exit))) (free (now (bank .exit))))) r ⌝ }
-        ensures lenders { λ _. ⌜ lent (now (memory .exit)) ≡ lent (now (memory .entry)) ⌝ }
+        ensures lenders { λ _. ⌜ fixed (now (memory .exit)) ≡ fixed (now (memory .entry)) ⌝ }
     {
         match choose(&self.registers) {
             Some(choice) => {
@@ -153,7 +153,7 @@ impl Controller {
     // Does one thing, and answers it.
     pub fn step<M: Memory, B: PortBank>(&mut self, memory: &mut M, bank: &mut B) -> Result<Event, Fault>
         ensures does { λ r. ⌜ Does (stepOf (stateOf (now (self .entry)) (outside (kindAt (now (memory .entry))) (byteAt (now (memory .entry))) (waiting (now (bank .entry))) (kept (now (bank .entry))) (free (now (bank .entry)))))) (stateOf (now (self .exit)) (outside (kindAt (now (memory .exit))) (byteAt (now (memory .exit))) (waiting (now (bank .exit))) (kept (now (bank .exit))) (free (now (bank .exit))))) r ⌝ }
-        ensures lenders { λ _. ⌜ lent (now (memory .exit)) ≡ lent (now (memory .entry)) ⌝ }
+        ensures lenders { λ _. ⌜ fixed (now (memory .exit)) ≡ fixed (now (memory .entry)) ⌝ }
     {
         if let Bus::Home = self.bus {
             match self.ongoing() {

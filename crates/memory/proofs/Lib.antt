@@ -1,3 +1,4 @@
 -- Lemmas on memories.
 pub mod Eight
 pub mod Lent
+pub mod Views

@@ -1,5 +1,5 @@
 -- What a block of lent bytes is as a memory.
-use Prim.Native.Nat.{ℕ, zero, suc, _+_, _-_, _≤_}
+use Prim.Native.Nat.{ℕ, zero, suc, _+_, _-_}
 use mathlib.Core.Bool.{Bool, cond, _&&_}
 use mathlib.Core.List.{List, [], _∷_}
 use lib.Dec.{ltb, leb}
@@ -44,6 +44,6 @@ blockKind b = kindFrom (b .kind) (b .base) (length (now (b .bytes)))
 abbrev pub blockByte : Block → ℕ → ℕ
 blockByte b = byteFrom (b .base) (now (b .bytes))
 
--- whose bytes a block has, and where they stand
-abbrev pub blockLent : Block → List ℕ
-blockLent b = name (b .bytes) ∷ b .base ∷ []
+-- what else never changes of a block: whose bytes it has, and where they stand
+abbrev pub blockFixed : Block → List ℕ
+blockFixed b = name (b .bytes) ∷ b .base ∷ []

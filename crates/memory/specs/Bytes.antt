@@ -21,16 +21,19 @@ writeOf Absent = Err (memoryRefusal 21)
 writeOf ReadOnly = Err (memoryRefusal 22)
 writeOf Writable = Ok tt
 
+-- nothing is there
 abbrev pub isAbsent : Kind → Bool
 isAbsent Absent = true
 isAbsent ReadOnly = false
 isAbsent Writable = false
 
+-- it is there, but no write is accepted
 abbrev pub isReadOnly : Kind → Bool
 isReadOnly Absent = false
 isReadOnly ReadOnly = true
 isReadOnly Writable = false
 
+-- a write is accepted
 abbrev pub isWritable : Kind → Bool
 isWritable Absent = false
 isWritable ReadOnly = false

@@ -4,7 +4,7 @@ ghost use mathlib.Core.Bool.{true, false};
 ghost use lib.ListN.{length};
 ghost use denote.Ref.{now, name};
 ghost use Rattle.std.specs.Results.{Cases};
-ghost use Rattle.memory.specs.Blocks.{blockNumber, fitsAt, kindOfAll, kindFrom, byteFrom, blockKind, blockByte, blockLent};
+ghost use Rattle.memory.specs.Blocks.{blockNumber, fitsAt, kindOfAll, kindFrom, byteFrom, blockKind, blockByte, blockFixed};
 use crate::kinds::Kind;
 use crate::kinds::MemoryFault;
 use crate::layer::Memory;
@@ -73,7 +73,8 @@ impl<'a> Block<'a> {
 
     /// The lent bytes, as they now are.
     pub fn into_bytes(self) -> &'a mut [u8]
-        ensures { λ r. ⌜ now r ≡ now (self .entry .bytes) ⌝ }
+        ensures bytes { λ r. ⌜ now r ≡ now (self .entry .bytes) ⌝ }
+        ensures lender { λ r. ⌜ name r ≡ name (self .entry .bytes) ⌝ }
     {
         let Block { bytes, .. } = self;
         bytes
@@ -85,7 +86,7 @@ pub impl Memory for Block<'_> as BlockMemory {
 
     ghost byteAt = { blockByte };
 
-    ghost lent = { blockLent };
+    ghost fixed = { blockFixed };
 
     fn kind(&self, address: u32) -> Kind {
         if address < self.base || (address - self.base) as usize >= self.bytes.len() {

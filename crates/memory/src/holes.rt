@@ -1,6 +1,7 @@
 // A hole over a memory.
 ghost use mathlib.Core.Path.{_≡_};
 ghost use mathlib.Core.Bool.{_&&_};
+ghost use mathlib.Core.List.{_∷_};
 ghost use lib.Dec.{leb};
 ghost use Rattle.memory.specs.Layers.{holed};
 use crate::kinds::Kind;
@@ -30,6 +31,7 @@ impl<N> Hole<N> {
         inner
     }
 
+    /// Whether the hole has the address.
     fn covers(&self, address: u32) -> bool
         ensures { λ r. ⌜ r ≡ (leb (now (self .entry) .bottom) address && leb address (now (self .entry) .top)) ⌝ }
     {
@@ -42,14 +44,22 @@ pub impl<N: Memory> Memory for Hole<N> as HoleMemory {
 
     ghost byteAt = { λ s. N·Memory .byteAt (s .inner) };
 
-    ghost lent = { λ s. N·Memory .lent (s .inner) };
+    ghost fixed = { λ s. s .bottom ∷ s .top ∷ N·Memory .fixed (s .inner) };
 
     fn kind(&self, address: u32) -> Kind {
-        if self.covers(address) { Kind::Absent } else { self.inner.kind(address) }
+        if self.covers(address) {
+            Kind::Absent
+        } else {
+            self.inner.kind(address)
+        }
     }
 
     fn read(&self, address: u32) -> Result<u8, MemoryFault> {
-        if self.covers(address) { Err(MemoryFault::Absent) } else { self.inner.read(address) }
+        if self.covers(address) {
+            Err(MemoryFault::Absent)
+        } else {
+            self.inner.read(address)
+        }
     }
 
     fn write(&mut self, address: u32, byte: u8) -> Result<(), MemoryFault> {

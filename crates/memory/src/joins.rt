@@ -1,6 +1,7 @@
 // Two memories joined at a boundary.
 ghost use mathlib.Core.Path.{_≡_};
-ghost use mathlib.Core.List.{_++_};
+ghost use mathlib.Core.List.{_∷_, _++_};
+ghost use lib.Dec.{ltb};
 ghost use Rattle.memory.specs.Layers.{joined};
 use crate::kinds::Kind;
 use crate::kinds::MemoryFault;
@@ -18,7 +19,11 @@ impl<L, U> Join<L, U> {
     pub fn new(lower: L, upper: U, boundary: u32) -> Join<L, U>
         ensures { λ r. ⌜ (r .lower ≡ lower) × (r .upper ≡ upper) × (r .boundary ≡ boundary) ⌝ }
     {
-        Join { lower, upper, boundary }
+        Join {
+            lower,
+            upper,
+            boundary,
+        }
     }
 
     /// The two memories, as they now are.
@@ -28,6 +33,13 @@ impl<L, U> Join<L, U> {
         let Join { lower, upper, .. } = self;
         (lower, upper)
     }
+
+    /// Whether the first memory has the address; the boundary belongs to the second.
+    fn is_lower(&self, address: u32) -> bool
+        ensures { λ r. ⌜ r ≡ ltb address (now (self .entry) .boundary) ⌝ }
+    {
+        address < self.boundary
+    }
 }
 
 pub impl<L: Memory, U: Memory> Memory for Join<L, U> as JoinMemory {
@@ -35,18 +47,26 @@ pub impl<L: Memory, U: Memory> Memory for Join<L, U> as JoinMemory {
 
     ghost byteAt = { λ s. joined (s .boundary) (L·Memory .byteAt (s .lower)) (U·Memory .byteAt (s .upper)) };
 
-    ghost lent = { λ s. L·Memory .lent (s .lower) ++ U·Memory .lent (s .upper) };
+    ghost fixed = { λ s. s .boundary ∷ (L·Memory .fixed (s .lower) ++ U·Memory .fixed (s .upper)) };
 
     fn kind(&self, address: u32) -> Kind {
-        if address < self.boundary { self.lower.kind(address) } else { self.upper.kind(address) }
+        if self.is_lower(address) {
+            self.lower.kind(address)
+        } else {
+            self.upper.kind(address)
+        }
     }
 
     fn read(&self, address: u32) -> Result<u8, MemoryFault> {
-        if address < self.boundary { self.lower.read(address) } else { self.upper.read(address) }
+        if self.is_lower(address) {
+            self.lower.read(address)
+        } else {
+            self.upper.read(address)
+        }
     }
 
     fn write(&mut self, address: u32, byte: u8) -> Result<(), MemoryFault> {
-        if address < self.boundary {
+        if self.is_lower(address) {
             self.lower.write(address, byte)
         } else {
             self.upper.write(address, byte)

@@ -15,8 +15,9 @@ pub trait Memory {
     /// The byte at each address.
     ghost byteAt: { Self → ℕ → ℕ };
 
-    /// For each lent block its ghost name and its base, so that a lender knows what came back; none by default.
-    ghost lent: { Self → List ℕ } = { λ _. [] };
+    /// What else never changes, as numbers: those of each layer, and of each lent block its ghost name and base.
+    /// By it a lender knows what came back; by default there is nothing.
+    ghost fixed: { Self → List ℕ } = { λ _. [] };
 
     /// Asks a kind, which changes nothing.
     fn kind(&self, address: u32) -> Kind
@@ -31,5 +32,5 @@ pub trait Memory {
         ensures answer { λ r. ⌜ r ≡ writeOf (kindAt (now (self .entry)) address) ⌝ }
         ensures kinds { λ _. ⌜ kindAt (now (self .exit)) ≡ kindAt (now (self .entry)) ⌝ }
         ensures bytes { λ _. ⌜ byteAt (now (self .exit)) ≡ written (kindAt (now (self .entry)) address) (byteAt (now (self .entry))) address byte ⌝ }
-        ensures lenders { λ _. ⌜ lent (now (self .exit)) ≡ lent (now (self .entry)) ⌝ };
+        ensures stays { λ _. ⌜ fixed (now (self .exit)) ≡ fixed (now (self .entry)) ⌝ };
 }

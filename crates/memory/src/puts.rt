@@ -1,6 +1,6 @@
 // A write of eight bytes, all or none, over any memory.
 ghost use mathlib.Core.Path.{_≡_};
-ghost use Prim.Native.Nat.{ℕ, _+_};
+ghost use Prim.Native.Nat.{_+_};
 ghost use Rattle.memory.specs.Puts.{reached, lesser, leastFrom, putOf, putBytes};
 use crate::kinds::Kind;
 use crate::kinds::MemoryFault;
@@ -43,7 +43,7 @@ pub fn put<N: Memory>(memory: &mut N, address: u32, bytes: [u8; 8]) -> Result<()
     ensures answer { λ r. ⌜ r ≡ putOf (N·Memory .kindAt (now (memory .entry))) address ⌝ }
     ensures kinds { λ _. ⌜ N·Memory .kindAt (now (memory .exit)) ≡ N·Memory .kindAt (now (memory .entry)) ⌝ }
     ensures bytes { λ _. ⌜ N·Memory .byteAt (now (memory .exit)) ≡ putBytes (N·Memory .kindAt (now (memory .entry))) (N·Memory .byteAt (now (memory .entry))) address bytes ⌝ }
-    ensures lenders { λ _. ⌜ N·Memory .lent (now (memory .exit)) ≡ N·Memory .lent (now (memory .entry)) ⌝ }
+    ensures stays { λ _. ⌜ N·Memory .fixed (now (memory .exit)) ≡ N·Memory .fixed (now (memory .entry)) ⌝ }
 {
     match least_kind(memory, address) {
         Kind::Absent => return Err(MemoryFault::Absent),

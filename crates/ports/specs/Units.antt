@@ -1,11 +1,13 @@
 -- What looking, taking and giving answer and leave.
 use Prim.Native.Nat.{ℕ, _-_}
 use mathlib.Core.Bool.{Bool, not, cond, _&&_}
-use mathlib.Core.List.{List, [], _∷_, _++_}
+use mathlib.Core.List.{List}
 use lib.Dec.{ltb, eqb}
 use Rattle.std.specs.declared.result.Result.{Result}
 use Rattle.std.specs.declared.result.Result.the-variants.{Ok, Err}
 use Rattle.memory.specs.Stored.{stored}
+use Rattle.tape.specs.Lines.{firstOr, restOf}
+use Rattle.tape.specs.Tapes.{pushed}
 use Rattle.ports.specs.declared.faults.PortFault.{PortFault}
 use Rattle.ports.specs.Faults.{portRefusal}
 
@@ -13,19 +15,9 @@ use Rattle.ports.specs.Faults.{portRefusal}
 abbrev pub isChannel : ℕ → Bool
 isChannel c = ltb c 8 && not (eqb c 4)
 
--- the first of the units that wait, or 31
-abbrev pub firstOf : List ℕ → Result ℕ PortFault
-firstOf [] = Err (portRefusal 31)
-firstOf (x ∷ xs) = Ok x
-
--- the units that wait behind the first
-abbrev pub restOf : List ℕ → List ℕ
-restOf [] = []
-restOf (x ∷ xs) = xs
-
 -- looking and taking answer the first unit of the channel, 31 if none waits, 33 before that if there is no such channel
 abbrev pub lookOf : ℕ → (ℕ → List ℕ) → Result ℕ PortFault
-lookOf c waiting = cond (isChannel c) (firstOf (waiting c)) (Err (portRefusal 33))
+lookOf c waiting = cond (isChannel c) (firstOr (portRefusal 31) (waiting c)) (Err (portRefusal 33))
 
 -- what waits after taking
 abbrev pub taken : ℕ → (ℕ → List ℕ) → ℕ → List ℕ
@@ -35,9 +27,9 @@ taken c waiting = cond (isChannel c) (stored waiting c (restOf (waiting c))) wai
 abbrev pub giveOf : ℕ → (ℕ → ℕ) → Result (Unit {0}) PortFault
 giveOf c free = cond (isChannel c) (cond (ltb 0 (free c)) (Ok tt) (Err (portRefusal 32))) (Err (portRefusal 33))
 
--- what is kept after giving a unit
+-- what is kept after giving a unit: one more, if a place was free
 abbrev pub added : ℕ → ℕ → (ℕ → ℕ) → (ℕ → List ℕ) → ℕ → List ℕ
-added c unit free kept = cond (isChannel c && ltb 0 (free c)) (stored kept c (kept c ++ unit ∷ [])) kept
+added c unit free kept = cond (isChannel c) (stored kept c (pushed (free c) (kept c) unit)) kept
 
 -- the places free after giving: one fewer, if there was one
 abbrev pub used : ℕ → (ℕ → ℕ) → ℕ → ℕ

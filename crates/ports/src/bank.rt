@@ -2,7 +2,7 @@
 ghost use mathlib.Core.Path.{_≡_};
 ghost use mathlib.Core.List.{List};
 ghost use Prim.Native.Nat.{ℕ};
-ghost use Rattle.ports.specs.Units.{lookOf, taken, giveOf, added, used};
+ghost use Rattle.ports.specs.Units.{isChannel, lookOf, taken, giveOf, added, used};
 use crate::faults::PortFault;
 
 /// A port bank: each of the channels 0, 1, 2, 3, 5, 6 and 7 has waiting units, kept units and free places.
@@ -33,4 +33,11 @@ pub trait PortBank {
         ensures waits { λ _. ⌜ waiting (now (self .exit)) ≡ waiting (now (self .entry)) ⌝ }
         ensures keeps { λ _. ⌜ kept (now (self .exit)) ≡ added channel unit (free (now (self .entry))) (kept (now (self .entry))) ⌝ }
         ensures frees { λ _. ⌜ free (now (self .exit)) ≡ used channel (free (now (self .entry))) ⌝ };
+}
+
+/// Whether a bank has such a channel: 0 to 7 without 4.
+pub fn is_channel(channel: u8) -> bool
+    ensures { λ r. ⌜ r ≡ isChannel channel ⌝ }
+{
+    channel < 8 && channel != 4
 }

@@ -27,7 +27,7 @@ pub fn play<M: Memory, B: PortBank>(memory: &mut M, bank: &mut B, calls: &[Call]
     ensures state { λ r. ⌜ stateOf (r .session .controller) (outside (kindAt (now (memory .exit))) (byteAt (now (memory .exit))) (waiting (now (bank .exit))) (kept (now (bank .exit))) (free (now (bank .exit)))) ≡ ended (fresh (outside (kindAt (now (memory .entry))) (byteAt (now (memory .entry))) (waiting (now (bank .entry))) (kept (now (bank .entry))) (free (now (bank .entry))))) (take (r .count) (now (calls .entry))) ⌝ }
     ensures law { λ r. ⌜ Law (fresh (outside (kindAt (now (memory .entry))) (byteAt (now (memory .entry))) (waiting (now (bank .entry))) (kept (now (bank .entry))) (free (now (bank .entry))))) (run (fresh (outside (kindAt (now (memory .entry))) (byteAt (now (memory .entry))) (waiting (now (bank .entry))) (kept (now (bank .entry))) (free (now (bank .entry))))) (take (r .count) (now (calls .entry)))) (stateOf (r .session .controller) (outside (kindAt (now (memory .exit))) (byteAt (now (memory .exit))) (waiting (now (bank .exit))) (kept (now (bank .exit))) (free (now (bank .exit))))) ⌝ }
     ensures holding { λ r. ⌜ Holding (r .session .grant) (r .session .controller .bus) ⌝ }
-    ensures lenders { λ _. ⌜ lent (now (memory .exit)) ≡ lent (now (memory .entry)) ⌝ }
+    ensures lenders { λ _. ⌜ fixed (now (memory .exit)) ≡ fixed (now (memory .entry)) ⌝ }
 {
     let mut session = Session { controller: Controller::new(), grant: None };
     let count = calls.len().min(answers.len());

@@ -96,7 +96,7 @@ impl Session {
     fn cycle<M: Memory>(&self, memory: &mut M, cycle: Cycle) -> Answer
         requires { ⌜ Holding (now self .grant) (now self .controller .bus) ⌝ }
         ensures does { λ r. ⌜ ((o : Outside) → o .kinds ≡ kindAt (now (memory .entry)) → o .bytes ≡ byteAt (now (memory .entry)) → Does (performed (stateOf (now (self .entry) .controller) o) (call.Cycle cycle)) (stateOf (now (self .entry) .controller) (outside (kindAt (now (memory .exit))) (byteAt (now (memory .exit))) (o .waiting) (o .kept) (o .free))) r) ⌝ }
-        ensures lenders { λ _. ⌜ lent (now (memory .exit)) ≡ lent (now (memory .entry)) ⌝ }
+        ensures lenders { λ _. ⌜ fixed (now (memory .exit)) ≡ fixed (now (memory .entry)) ⌝ }
     {
         match &self.grant {
             None => cycle_answer(Err(BusRefusal::NotGranted)),
@@ -141,7 +141,7 @@ impl Session {
         requires { ⌜ Holding (now self .grant) (now self .controller .bus) ⌝ }
         ensures does { λ r. ⌜ Does (performed (stateOf (now (self .entry) .controller) (outside (kindAt (now (memory .entry))) (byteAt (now (memory .entry))) (waiting (now (bank .entry))) (kept (now (bank .entry))) (free (now (bank .entry))))) call) (stateOf (now (self .exit) .controller) (outside (kindAt (now (memory .exit))) (byteAt (now (memory .exit))) (waiting (now (bank .exit))) (kept (now (bank .exit))) (free (now (bank .exit))))) r ⌝ }
         ensures holding { λ _. ⌜ Holding (now (self .exit) .grant) (now (self .exit) .controller .bus) ⌝ }
-        ensures lenders { λ _. ⌜ lent (now (memory .exit)) ≡ lent (now (memory .entry)) ⌝ }
+        ensures lenders { λ _. ⌜ fixed (now (memory .exit)) ≡ fixed (now (memory .entry)) ⌝ }
     {
         match call {
             Call::Step => Answer::Step { outcome: self.controller.step(memory, bank) },

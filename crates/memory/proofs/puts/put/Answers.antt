@@ -1,5 +1,4 @@
 -- No write of the eight is refused.
-use borrow.Author.Needs.{needs}
 use native.Mathlib.Omega.{arith}
 use Rattle.memory.proofs.Eight.{all-writable, not-refused}
 use Rattle.memory.proofs.puts.put.Needs as need

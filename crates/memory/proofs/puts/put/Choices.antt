@@ -7,4 +7,4 @@ abbrev pub Inv-loop-i : given.InvT-loop-i
 Inv-loop-i g l =
     (g .N·Memory .kindAt (l .memory) ≡ g .N·Memory .kindAt (l .entry .memory))
     × (g .N·Memory .byteAt (l .memory) ≡ spread (g .N·Memory .byteAt (l .entry .memory)) (l .address) (l .i) (l .bytes))
-    × (g .N·Memory .lent (l .memory) ≡ g .N·Memory .lent (l .entry .memory))
+    × (g .N·Memory .fixed (l .memory) ≡ g .N·Memory .fixed (l .entry .memory))

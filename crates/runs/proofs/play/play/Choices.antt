@@ -15,4 +15,4 @@ Inv-loop-i g l =
     × (take (l .i) (l .answers) ≡ answersOf (run first done))
     × (drop (l .i) (l .answers) ≡ drop (l .i) (l .entry .answers))
     × Holding (l .session .grant) (l .session .controller .bus)
-    × (m .lent (l .memory) ≡ m .lent (l .entry .memory))
+    × (m .fixed (l .memory) ≡ m .fixed (l .entry .memory))

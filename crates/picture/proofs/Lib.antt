@@ -1,0 +1,3 @@
+-- Lemmas of the example.
+pub mod Patching
+pub mod Repeated

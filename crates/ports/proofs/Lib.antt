@@ -1,0 +1,2 @@
+-- Lemmas on port banks.
+pub mod Ramped

@@ -1,0 +1,6 @@
+-- What the contracts of scripts cite.
+pub mod Faults
+pub mod Commands
+pub mod Reads
+pub mod Writes
+pub mod Laws

@@ -1,0 +1,3 @@
+-- Lemmas on tapes.
+pub mod Rings
+pub mod Held
