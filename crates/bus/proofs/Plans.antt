@@ -19,26 +19,26 @@ use Rattle.bus.proofs.Trips.{address-of-place, address-fits, place-sized}
 use Rattle.bus.proofs.Turns.{turned-turned, turned-zero, turned-below}
 
 -- the bus address after one move is one of whole units
-whole-unit : (m : Addressing) (d : Bool) (p : Place) → Sized p → turned 4294967296 d (addressOf m p) (unitOf m) % unitOf m ≡ 0
-whole-unit Bytes d p s = omega arith
-whole-unit Words true p s = omega arith
-whole-unit Words false p s = omega arith
+whole-unit : (m : Addressing) (d : Bool) (p : Place) → turned 4294967296 d (addressOf m p) (unitOf m) % unitOf m ≡ 0
+whole-unit Bytes d p = omega arith
+whole-unit Words true p = omega arith
+whole-unit Words false p = omega arith
 
 -- extended, the registers after a move stand for the moved address
-moved-address : (m : Addressing) (d : Bool) (p : Place) → Sized p
+moved-address : (m : Addressing) (d : Bool) (p : Place)
     → addressOf m (placeAt m (turned 4294967296 d (addressOf m p) (unitOf m)) (p .low)) ≡ turned 4294967296 d (addressOf m p) (unitOf m)
-moved-address m d p s =
-    address-of-place m _ (p .low) (turned-below 4294967296 d (addressOf m p) (unitOf m) (lit< tt)) (whole-unit m d p s)
+moved-address m d p =
+    address-of-place m _ (p .low) (turned-below 4294967296 d (addressOf m p) (unitOf m) (lit< tt)) (whole-unit m d p)
 
 first-of : (m : Addressing) (e d : Bool) (p : Place) → Sized p → planned (course m e d) p 0 ≡ addressOf m p
 first-of m true d p s = rw (mul-zero, turned-zero 4294967296 d (addressOf m p) (address-fits m p s))
 first-of m false d p s = rw (turned-zero 65536 d (p .address) (s .0))
 
-next-of : (m : Addressing) (e d : Bool) (p : Place) (k : ℕ) → Sized p
+next-of : (m : Addressing) (e d : Bool) (p : Place) (k : ℕ)
     → planned (course m e d) p (k + 1) ≡ planned (course m e d) (movedPlace (course m e d) p) k
-next-of m true d p k s =
-    rw (moved-address m d p s, turned-turned 4294967296 d (addressOf m p) (unitOf m) (unitOf m * k), add-comm k 1, mul-add (unitOf m) 1 k, mul-one (unitOf m))
-next-of m false d p k s = rw (turned-turned 65536 d (p .address) 1 k, add-comm k 1)
+next-of m true d p k =
+    rw (moved-address m d p, turned-turned 4294967296 d (addressOf m p) (unitOf m) (unitOf m * k), add-comm k 1, mul-add (unitOf m) 1 k, mul-one (unitOf m))
+next-of m false d p k = rw (turned-turned 65536 d (p .address) 1 k, add-comm k 1)
 
 sized-by : (m : Addressing) (e d : Bool) (p : Place) → Sized p → Sized (movedPlace (course m e d) p)
 sized-by m true d p s = place-sized m _ (p .low)
@@ -49,8 +49,8 @@ pub planned-first : (c : Course) (p : Place) → Sized p → planned c p 0 ≡ a
 planned-first c p s = first-of (c .addressing) (c .extended) (c .decrement) p s
 
 -- each later one stands one place earlier in the plan of the moved registers
-pub planned-next : (c : Course) (p : Place) (k : ℕ) → Sized p → planned c p (k + 1) ≡ planned c (movedPlace c p) k
-planned-next c p k s = next-of (c .addressing) (c .extended) (c .decrement) p k s
+pub planned-next : (c : Course) (p : Place) (k : ℕ) → planned c p (k + 1) ≡ planned c (movedPlace c p) k
+planned-next c p k = next-of (c .addressing) (c .extended) (c .decrement) p k
 
 pub moved-sized : (c : Course) (p : Place) → Sized p → Sized (movedPlace c p)
 moved-sized c p s = sized-by (c .addressing) (c .extended) (c .decrement) p s
@@ -68,7 +68,7 @@ shifted f g a (suc n) h = ap₂ _∷_ (h a) (shifted f g (a + 1) n h)
 
 -- a plan is its first address and the plan of the moved registers
 pub plan-more : (c : Course) (p : Place) (n : ℕ) → Sized p → plan c p (suc n) ≡ addressOf (c .addressing) p ∷ plan c (movedPlace c p) n
-plan-more c p n s = ap₂ _∷_ (planned-first c p s) (shifted (planned c p) (planned c (movedPlace c p)) 0 n (λ k. planned-next c p k s))
+plan-more c p n s = ap₂ _∷_ (planned-first c p s) (shifted (planned c p) (planned c (movedPlace c p)) 0 n (planned-next c p))
 
 pub plan-rest : (c : Course) (p r : Place) → r ≡ movedPlace c p → Sized p → (n : ℕ) → plan c p (suc n) ≡ addressOf (c .addressing) p ∷ plan c r n
 plan-rest c p r e s n = rw e (plan-more c p n s)

@@ -36,33 +36,24 @@ Ready ch = ch .list .active ≡ true → ch .list .loaded ≡ true
 abbrev pub CanFetch : Channel → Type 0
 CanFetch ch = (ch .list .active ≡ true) × ((ch .list .loaded ≡ false) ⊎ ((isOpen (ch .list) ≡ true) × (hasPlace (ch .list) ≡ true)))
 
--- what a step did to channel c, from the state s to p
-pub data Stepped (c : ℕ) (s : State) (p : State × Result Event Fault) : Type 0 where
+-- what a step did to channel c, which had the registers ch while the world was o
+pub data Stepped (c : ℕ) (ch : Channel) (o : Outside) (p : State × Result Event Fault) : Type 0 where
   -- nothing
-  rests : ofChannel c (movedBy (p .1)) ≡ None → fetchedBy c (p .1) ≡ None → partOf (channelOf (p .0 .registers) c) ≡ partOf (channelOf (s .registers) c) → Stepped c s p
+  rests : ofChannel c (movedBy (p .1)) ≡ None → fetchedBy c (p .1) ≡ None → partOf (channelOf (p .0 .registers) c) ≡ partOf ch → Stepped c ch o p
   -- a transfer
-  goes : (m : Move) → ofChannel c (movedBy (p .1)) ≡ Some m → fetchedBy c (p .1) ≡ None → m .address ≡ passes (channelOf (s .registers) c)
-      → m .signal ≡ passed (channelOf (s .registers) c) .signal → channelOf (p .0 .registers) c ≡ passed (channelOf (s .registers) c) .channel
-      → Ready (channelOf (s .registers) c) → Stepped c s p
+  goes : (m : Move) → ofChannel c (movedBy (p .1)) ≡ Some m → fetchedBy c (p .1) ≡ None → m .address ≡ passes ch
+      → m .signal ≡ passed ch .signal → channelOf (p .0 .registers) c ≡ passed ch .channel → Ready ch → Stepped c ch o p
   -- a fetch
-  gets : (x : Found) → ofChannel c (movedBy (p .1)) ≡ None → fetchedBy c (p .1) ≡ Some (channelOf (s .registers) c .list .next)
-      → fetchOf (s .world .kinds) (s .world .bytes) c (channelOf (s .registers) c .list) ≡ Ok x
-      → channelOf (p .0 .registers) c ≡ filled x (channelOf (s .registers) c) → CanFetch (channelOf (s .registers) c) → Stepped c s p
+  gets : (x : Found) → ofChannel c (movedBy (p .1)) ≡ None → fetchedBy c (p .1) ≡ Some (ch .list .next)
+      → fetchOf (o .kinds) (o .bytes) c (ch .list) ≡ Ok x → channelOf (p .0 .registers) c ≡ filled x ch → CanFetch ch → p .0 .world ≡ o → Stepped c ch o p
 
 module _ (c : ℕ) (hc : c < 8) where
-  -- another channel's fault, fetch or transfer does not reach channel c
-  settled-away : (s : State) (d : ℕ) (p : State × Result Event Fault) → Four (p .0 .registers) → d < 8 → eqb c d ≡ false
-      → ofChannel c (movedBy (p .1)) ≡ None → fetchedBy c (p .1) ≡ None → partOf (channelOf (p .0 .registers) c) ≡ partOf (channelOf (s .registers) c)
-      → Stepped c s (settled d p)
-  settled-away s d (t , Ok e) f hd q m g h = rests m g h
-  settled-away s d (t , Err e) f hd q m g h = rests refl refl (ap partOf (channel-other (t .registers) c d _ f hc hd q) ∙ h)
-
   -- its own fault leaves its part
   fault-rests : (s t : State) (e : Fault) → Four (t .registers) → partOf (channelOf (t .registers) c) ≡ partOf (channelOf (s .registers) c)
-      → Stepped c s (failed c t, Err e)
+      → Stepped c (channelOf (s .registers) c) (s .world) (failed c t, Err e)
   fault-rests s t e f h = rests refl refl (ap partOf (channel-same (t .registers) c _ f hc) ∙ h)
 
-  own-moves : (s : State) (p : Outside × Result ℕ Fault) → Four (s .registers) → Ready (channelOf (s .registers) c) → Stepped c s (settled c (moves s c p))
+  own-moves : (s : State) (p : Outside × Result ℕ Fault) → Four (s .registers) → Ready (channelOf (s .registers) c) → Stepped c (channelOf (s .registers) c) (s .world) (settled c (moves s c p))
   own-moves s (o , Ok u) f r =
       let e : eqb c c ≡ true = grind arith in
       goes (record { channel = c; address = passes (channelOf (s .registers) c); unit = u; signal = passed (channelOf (s .registers) c) .signal })
@@ -70,17 +61,17 @@ module _ (c : ℕ) (hc : c < 8) where
   own-moves s (o , Err e) f r = fault-rests s _ e f refl
 
   own-fills : (s : State) (r : Result Found Fault) → fetchOf (s .world .kinds) (s .world .bytes) c (channelOf (s .registers) c .list) ≡ r
-      → Four (s .registers) → CanFetch (channelOf (s .registers) c) → Stepped c s (settled c (fills s c r))
+      → Four (s .registers) → CanFetch (channelOf (s .registers) c) → Stepped c (channelOf (s .registers) c) (s .world) (settled c (fills s c r))
   own-fills s (Ok x) q f can =
       let e : eqb c c ≡ true = grind arith in
-      gets x refl (rw e) q (channel-same (s .registers) c _ f hc) can
+      gets x refl (rw e) q (channel-same (s .registers) c _ f hc) can refl
   own-fills s (Err e) q f can = fault-rests s s e f refl
 
-  other-moves : (s : State) (d : ℕ) (p : Outside × Result ℕ Fault) → Four (s .registers) → d < 8 → eqb c d ≡ false → Stepped c s (settled d (moves s d p))
+  other-moves : (s : State) (d : ℕ) (p : Outside × Result ℕ Fault) → Four (s .registers) → d < 8 → eqb c d ≡ false → Stepped c (channelOf (s .registers) c) (s .world) (settled d (moves s d p))
   other-moves s d (o , Ok u) f hd q = rests (rw q) refl (ap partOf (channel-other (s .registers) c d _ f hc hd q))
   other-moves s d (o , Err e) f hd q = rests refl refl (ap partOf (channel-other (s .registers) c d _ f hc hd q))
 
-  other-fills : (s : State) (d : ℕ) (r : Result Found Fault) → Four (s .registers) → d < 8 → eqb c d ≡ false → Stepped c s (settled d (fills s d r))
+  other-fills : (s : State) (d : ℕ) (r : Result Found Fault) → Four (s .registers) → d < 8 → eqb c d ≡ false → Stepped c (channelOf (s .registers) c) (s .world) (settled d (fills s d r))
   other-fills s d (Ok x) f hd q = rests refl (rw q) (ap partOf (channel-other (s .registers) c d _ f hc hd q))
   other-fills s d (Err e) f hd q = rests refl refl (ap partOf (channel-other (s .registers) c d _ f hc hd q))
 
@@ -96,35 +87,35 @@ module _ (c : ℕ) (hc : c < 8) where
 
   -- a channel in service, c itself or another
   own-serve : (s : State) (p q : Bool) → (channelOf (s .registers) c .list .active && not (channelOf (s .registers) c .list .loaded)) ≡ q → Four (s .registers)
-      → Stepped c s (settled c (cond p (lends s c) (cond q (fetchStep s c) (transferOf s c))))
+      → Stepped c (channelOf (s .registers) c) (s .world) (settled c (cond p (lends s c) (cond q (fetchStep s c) (transferOf s c))))
   own-serve s true q e f = rests refl refl refl
   own-serve s false true e f = own-fills s _ refl f (unloaded (channelOf (s .registers) c) _ _ refl refl e)
   own-serve s false false e f = own-moves s _ f (ready-or (channelOf (s .registers) c) _ _ refl refl e)
 
   other-serve : (s : State) (d : ℕ) (p q : Bool) → Four (s .registers) → d < 8 → eqb c d ≡ false
-      → Stepped c s (settled d (cond p (lends s d) (cond q (fetchStep s d) (transferOf s d))))
+      → Stepped c (channelOf (s .registers) c) (s .world) (settled d (cond p (lends s d) (cond q (fetchStep s d) (transferOf s d))))
   other-serve s d true q f hd e = rests refl refl refl
   other-serve s d false true f hd e = other-fills s d _ f hd e
   other-serve s d false false f hd e = other-moves s d _ f hd e
 
-  pub serve-steps : (s : State) (d : ℕ) → Four (s .registers) → d < 8 → Stepped c s (serve s d)
+  pub serve-steps : (s : State) (d : ℕ) → Four (s .registers) → d < 8 → Stepped c (channelOf (s .registers) c) (s .world) (serve s d)
   serve-steps s d f hd = go (eqb c d) refl
     where
-      go : (q : Bool) → eqb c d ≡ q → Stepped c s (serve s d)
+      go : (q : Bool) → eqb c d ≡ q → Stepped c (channelOf (s .registers) c) (s .world) (serve s d)
       go true q =
           let same : c ≡ d = grind arith in
-          let P : ℕ → Type 0 = λ x. Stepped c s (serve s x) in
+          let P : ℕ → Type 0 = λ x. Stepped c (channelOf (s .registers) c) (s .world) (serve s x) in
           subst P same (own-serve s (isCascade (channelOf (s .registers) c .mode .service)) _ refl f)
       go false q = other-serve s d (isCascade (channelOf (s .registers) d .mode .service)) (channelOf (s .registers) d .list .active && not (channelOf (s .registers) d .list .loaded)) f hd q
 
-  pub ahead-steps : (s : State) (d : ℕ) → Four (s .registers) → d < 8 → fetches (s .registers) d ≡ true → Stepped c s (settled d (fetchStep s d))
+  pub ahead-steps : (s : State) (d : ℕ) → Four (s .registers) → d < 8 → fetches (s .registers) d ≡ true → Stepped c (channelOf (s .registers) c) (s .world) (settled d (fetchStep s d))
   ahead-steps s d f hd g = go (eqb c d) refl
     where
       can : (ch : Channel) → (not (ch .mask) && (isOpen (ch .list) && hasPlace (ch .list))) ≡ true → CanFetch ch
       can ch e = let o : isOpen (ch .list) ≡ true = grind arith in let h : hasPlace (ch .list) ≡ true = grind arith in let a : ch .list .active ≡ true = grind arith in (a, inr (o, h))
-      go : (q : Bool) → eqb c d ≡ q → Stepped c s (settled d (fetchStep s d))
+      go : (q : Bool) → eqb c d ≡ q → Stepped c (channelOf (s .registers) c) (s .world) (settled d (fetchStep s d))
       go true q =
           let same : c ≡ d = grind arith in
-          let P : ℕ → Type 0 = λ x. fetches (s .registers) x ≡ true → Stepped c s (settled x (fetchStep s x)) in
+          let P : ℕ → Type 0 = λ x. fetches (s .registers) x ≡ true → Stepped c (channelOf (s .registers) c) (s .world) (settled x (fetchStep s x)) in
           subst P same (λ e. own-fills s _ refl f (can (channelOf (s .registers) c) e)) g
       go false q = other-fills s d _ f hd q

@@ -92,10 +92,15 @@ abbrev pub addressesOf : Channel → List Entry → List ℕ
 addressesOf ch [] = []
 addressesOf ch (e ∷ es) = entryAddresses ch e ++ addressesOf ch es
 
+-- x is none of some places
+abbrev pub Misses : ℕ → List ℕ → Type 0
+Misses x [] = Unit {0}
+Misses x (y ∷ ys) = (y ≡ x → ⊥) × Misses x ys
+
 -- no write of a row touches the table
 abbrev pub Spared : List ℕ → List (ℕ × ℕ) → Type 0
 Spared table [] = Unit {0}
-Spared table (w ∷ ws) = ((i : ℕ) → i < length table → getD table i 0 ≡ w .0 → ⊥) × Spared table ws
+Spared table (w ∷ ws) = Misses (w .0) table × Spared table ws
 
 abbrev pub Untouched : List ℕ → List Turn → Type 0
 Untouched table [] = Unit {0}
@@ -123,8 +128,8 @@ abbrev pub Job : ℕ → State → List Turn → Move → Type 0
 Job c s row m = PlainJob c s row m × ListJob c s row m
 
 pub record Planned (first : State) (h : List Turn) : Type 0 where
-  pub made : (c : ℕ) (row rest : List Turn) (t : Turn) (m : Move) → h ≡ row ++ t ∷ rest → NoneBegins c row → moveOf c t ≡ Some m → Job c first row m
-  pub begun : (c : ℕ) (past row rest : List Turn) (b t : Turn) (m : Move) → h ≡ past ++ b ∷ row ++ t ∷ rest → beginsJob c b ≡ true
+  pub made : (c : ℕ) (row rest : List Turn) (t : Turn) (m : Move) → c < 8 → h ≡ row ++ t ∷ rest → NoneBegins c row → moveOf c t ≡ Some m → Job c first row m
+  pub begun : (c : ℕ) (past row rest : List Turn) (b t : Turn) (m : Move) → c < 8 → h ≡ past ++ b ∷ row ++ t ∷ rest → beginsJob c b ≡ true
       → NoneBegins c row → moveOf c t ≡ Some m → Job c (b .after) row m
 
 -- WAITING ---------------------------------------------------------------------------------------------------------
