@@ -1,5 +1,5 @@
 -- The law of plans: a transfer passes the plan's first address and leaves the plan of the moved registers.
-use mathlib.Core.Path.{_≡_, refl, ap₂}
+use mathlib.Core.Path.{_≡_, refl, ap, ap₂, _∙_}
 use mathlib.Core.Bool.{Bool, true, false}
 use mathlib.Core.List.{_∷_, map}
 use Prim.Native.Nat.{ℕ, zero, suc, _+_, _*_, _%_, _<_}
@@ -67,8 +67,12 @@ shifted f g a zero h = refl
 shifted f g a (suc n) h = ap₂ _∷_ (h a) (shifted f g (a + 1) n h)
 
 -- a plan is its first address and the plan of the moved registers
+pub plan-next : (c : Course) (p : Place) (n : ℕ) → plan c p (suc n) ≡ planned c p 0 ∷ plan c (movedPlace c p) n
+plan-next c p n = ap₂ _∷_ refl (shifted (planned c p) (planned c (movedPlace c p)) 0 n (planned-next c p))
+
+-- and the first address is that of the registers
 pub plan-more : (c : Course) (p : Place) (n : ℕ) → Sized p → plan c p (suc n) ≡ addressOf (c .addressing) p ∷ plan c (movedPlace c p) n
-plan-more c p n s = ap₂ _∷_ (planned-first c p s) (shifted (planned c p) (planned c (movedPlace c p)) 0 n (planned-next c p))
+plan-more c p n s = plan-next c p n ∙ ap (λ a. a ∷ plan c (movedPlace c p) n) (planned-first c p s)
 
 pub plan-rest : (c : Course) (p r : Place) → r ≡ movedPlace c p → Sized p → (n : ℕ) → plan c p (suc n) ≡ addressOf (c .addressing) p ∷ plan c r n
 plan-rest c p r e s n = rw e (plan-more c p n s)
