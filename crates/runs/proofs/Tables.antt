@@ -46,7 +46,7 @@ spared-head : (y : ℕ) (ys : List ℕ) (ws : List (ℕ × ℕ)) → Spared (y �
 spared-head y ys [] h = tt
 spared-head y ys (w ∷ ws) h = (h .0 .0, spared-head y ys ws (h .1))
 
-spared-tail : (y : ℕ) (ys : List ℕ) (ws : List (ℕ × ℕ)) → Spared (y ∷ ys) ws → Spared ys ws
+pub spared-tail : (y : ℕ) (ys : List ℕ) (ws : List (ℕ × ℕ)) → Spared (y ∷ ys) ws → Spared ys ws
 spared-tail y ys [] h = tt
 spared-tail y ys (w ∷ ws) h = (h .0 .1, spared-tail y ys ws (h .1))
 

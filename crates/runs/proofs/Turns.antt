@@ -83,6 +83,9 @@ module _ (c : ℕ) (hc : c < 8) where
   at-step s (Out d) h = rests refl refl refl
   at-step s (Taken d) h = rests refl refl refl
 
+  pub step-effect : (s : State) → Sound (s .registers) → Stepped c (channelOf (s .registers) c) (s .world) (stepOf s)
+  step-effect s h = at-step s (s .bus) h
+
   by-step : (s : State) → Stepped c (channelOf (s .registers) c) (s .world) (stepOf s) → Effect c (turnOf s call.Step)
   by-step s (rests m g p) = still m g (inl refl) p
   by-step s (goes m i g a sg ch r) = moves m i g refl a sg ch r
@@ -96,7 +99,7 @@ module _ (c : ℕ) (hc : c < 8) where
   effect s (call.Write p v) h e = by-write s p v (write-effect (s .registers) c (h .0) hc s (writePort p) v refl (port-reaches p) e)
   effect s (call.Read p) h e = still refl refl (inl refl) (read-leaves (s .registers) c (readPort p))
   effect s (call.Lines b) h e = still refl refl (inl refl) (lined-leaves (s .registers) c b)
-  effect s call.Step h e = by-step s (at-step s (s .bus) h)
+  effect s call.Step h e = by-step s (step-effect s h)
   effect s (call.Inspect d) h e = still refl refl (inl refl) refl
   effect s call.Take h e = still refl refl (inl refl) refl
   effect s (call.Cycle x) h e = still refl refl (inl refl) (go (holds (s .bus) (outTo (s .bus))))
@@ -129,7 +132,7 @@ module _ (c : ℕ) (hc : c < 8) where
   move-passes s (call.Write p v) m h e = none-moved m (channelOf (s .registers) c) e
   move-passes s (call.Read p) m h e = none-moved m (channelOf (s .registers) c) e
   move-passes s (call.Lines b) m h e = none-moved m (channelOf (s .registers) c) e
-  move-passes s call.Step m h e = step-passes s m (at-step s (s .bus) h) e
+  move-passes s call.Step m h e = step-passes s m (step-effect s h) e
   move-passes s (call.Inspect d) m h e = none-moved m (channelOf (s .registers) c) e
   move-passes s call.Take m h e = none-moved m (channelOf (s .registers) c) e
   move-passes s (call.Cycle x) m h e = none-moved m (channelOf (s .registers) c) e

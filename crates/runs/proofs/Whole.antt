@@ -10,10 +10,11 @@ use Rattle.controller.specs.Steps.{State, fresh}
 use Rattle.runs.specs.declared.calls.Call.{Call}
 use Rattle.runs.specs.declared.calls.Answer.{Answer}
 use Rattle.runs.specs.Calls.{run, ended, answersOf, performed}
-use Rattle.runs.specs.Law.{Law, Planned}
+use Rattle.runs.specs.Law.{Law}
 use Rattle.runs.proofs.Runs.{ended-push, answers-push}
 use Rattle.runs.proofs.Carry.{carried}
 use Rattle.runs.proofs.Wait.{waiting}
+use Rattle.runs.proofs.Jobs.{planned}
 
 -- one call more
 pub one-more : (first s t : State) (calls : List Call) (answers old : List Answer) (i : ℕ) (d : Call) (r : Answer)
@@ -30,9 +31,6 @@ one-more first s t calls answers old i d r inC inA here said rest does =
       ∙ ap (λ x. answersOf (run first done) ++ (x ∷ [])) (does .answer ∙ ap (λ x. performed x k .1) here)
       ∙ sym (answers-push first done k) ∙ ap (λ l. answersOf (run first l)) (sym more)
     , drop-set-lt (i + 1) answers i r (omega arith) ∙ sym (drop-drop 1 i answers) ∙ ap (drop 1) rest ∙ drop-drop 1 i old )
-
-planned : (o : Outside) (ks : List Call) → Planned (fresh o) (run (fresh o) ks)
-planned o ks = ?
 
 pub lawful : (o : Outside) (calls : List Call) (t : State) → t ≡ ended (fresh o) calls → Law (fresh o) (run (fresh o) calls) t
 lawful o calls t e =

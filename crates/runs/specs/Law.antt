@@ -128,8 +128,8 @@ abbrev pub Job : ℕ → State → List Turn → Move → Type 0
 Job c s row m = PlainJob c s row m × ListJob c s row m
 
 pub record Planned (first : State) (h : List Turn) : Type 0 where
-  pub made : (c : ℕ) (row rest : List Turn) (t : Turn) (m : Move) → c < 8 → h ≡ row ++ t ∷ rest → NoneBegins c row → moveOf c t ≡ Some m → Job c first row m
-  pub begun : (c : ℕ) (past row rest : List Turn) (b t : Turn) (m : Move) → c < 8 → h ≡ past ++ b ∷ row ++ t ∷ rest → beginsJob c b ≡ true
+  pub made : (c : ℕ) (row rest : List Turn) (t : Turn) (m : Move) → c < 8 → h ≡ row ++ (t ∷ rest) → NoneBegins c row → moveOf c t ≡ Some m → Job c first row m
+  pub begun : (c : ℕ) (past row rest : List Turn) (b t : Turn) (m : Move) → c < 8 → h ≡ past ++ (b ∷ (row ++ (t ∷ rest))) → beginsJob c b ≡ true
       → NoneBegins c row → moveOf c t ≡ Some m → Job c (b .after) row m
 
 -- WAITING ---------------------------------------------------------------------------------------------------------
