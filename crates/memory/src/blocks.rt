@@ -42,7 +42,7 @@ impl<'a> Block<'a> {
     pub fn fits(length: usize, base: u32) -> Result<(), BlockFault>
         ensures { λ r. ⌜ Cases r (λ _. fitsAt base «length» ≡ true) (λ e. (blockNumber e ≡ 71) × (fitsAt base «length» ≡ false)) ⌝ }
     {
-        if length <= LONGEST && length as u64 + base as u64 <= 0x1_0000_0000 {
+        if length <= LONGEST && length as u64 + u64::from(base) <= 0x1_0000_0000 {
             Ok(())
         } else {
             Err(BlockFault::DoesNotFit)

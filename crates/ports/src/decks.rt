@@ -7,7 +7,7 @@ ghost use lib.Dec.{ltb};
 ghost use lib.ListN.{length};
 ghost use Rattle.std.specs.declared.result.Result.the-variants.{Ok, Err};
 ghost use Rattle.tape.specs.Lines.{firstOr, restOf};
-ghost use Rattle.tape.specs.Tapes.{pushed};
+ghost use Rattle.tape.specs.Tapes.{cellsOf, pushed};
 ghost use Rattle.ports.specs.Faults.{portRefusal};
 ghost use Rattle.ports.specs.Decks.{deckWaiting, deckKept, deckFree};
 use crate::faults::PortFault;
@@ -27,6 +27,7 @@ impl<'a> Deck<'a> {
         ensures waits { λ r. ⌜ deckWaiting r ≡ now (loaded .entry) ⌝ }
         ensures keeps { λ r. ⌜ deckKept r ≡ [] ⌝ }
         ensures frees { λ r. ⌜ deckFree r ≡ length (now (places .entry)) ⌝ }
+        ensures cells { λ r. ⌜ (cellsOf (r .waiting) ≡ now (loaded .entry)) × (cellsOf (r .kept) ≡ now (places .entry)) ⌝ }
     {
         Deck {
             waiting: Tape::full(loaded),
