@@ -40,8 +40,8 @@ firstAsk k = asks k 0 || (asks k 1 || (asks k 2 || asks k 3))
 -- a service goes on: in block mode while the mask is clear or the request bit set, else while its channel asks
 abbrev pub goesOn : Registers → ℕ → Bool
 goesOn k c = cond (isBlock (channelOf k c .mode .service))
-  (allowed k c && (not (channelOf k c .mask) || channelOf k c .request))
-  (asks k c)
+    (allowed k c && (not (channelOf k c .mask) || channelOf k c .request))
+    (asks k c)
 
 -- a list that can still fetch: active, no EOL fetched, no Stop
 abbrev pub isOpen : Chain → Bool
@@ -58,5 +58,5 @@ fetches k c = not (channelOf k c .mask) && (isOpen (channelOf k c .list) && hasP
 -- the lowest channel that fetches ahead
 abbrev pub firstFetching : Registers → Option ℕ
 firstFetching k =
-  cond (fetches k 0) (Some 0) (cond (fetches k 1) (Some 1) (cond (fetches k 2) (Some 2) (cond (fetches k 3) (Some 3)
-  (cond (fetches k 5) (Some 5) (cond (fetches k 6) (Some 6) (cond (fetches k 7) (Some 7) None))))))
+    cond (fetches k 0) (Some 0) (cond (fetches k 1) (Some 1) (cond (fetches k 2) (Some 2) (cond (fetches k 3) (Some 3)
+    (cond (fetches k 5) (Some 5) (cond (fetches k 6) (Some 6) (cond (fetches k 7) (Some 7) None))))))

@@ -28,7 +28,7 @@ causeNumber TooManyEntries = 42
 -- the cause with a number
 abbrev pub causeOf : ℕ → Cause
 causeOf n = cond (eqb n 21) Absent (cond (eqb n 22) ReadOnly (cond (eqb n 31) NothingWaits (cond (eqb n 32) NoPlace
-  (cond (eqb n 33) NoSuchChannel (cond (eqb n 34) TooWide (cond (eqb n 41) EntryAbsent TooManyEntries))))))
+    (cond (eqb n 33) NoSuchChannel (cond (eqb n 34) TooWide (cond (eqb n 41) EntryAbsent TooManyEntries))))))
 
 -- and its layer
 abbrev pub layerOf : Cause → Layer

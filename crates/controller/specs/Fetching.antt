@@ -77,12 +77,20 @@ fetchOf kinds f c l = cond (leb mostEntries (l .entries)) (Err (faultOf 42 c 0))
 -- the list after a fetch: the next place moves on, one entry more is counted, EOL is noted
 abbrev pub noted : Fetched → Chain → Chain
 noted x l = record {
-  pointer = l .pointer; next = x .next; active = l .active; loaded = l .loaded; reserve = l .reserve;
-  ended = x .last; stopped = l .stopped; entries = (l .entries + 1) % 65536; signal = l .signal; irq13 = l .irq13;
+  pointer = l .pointer;
+  next = x .next;
+  active = l .active;
+  loaded = l .loaded;
+  reserve = l .reserve;
+  ended = x .last;
+  stopped = l .stopped;
+  entries = (l .entries + 1) % 65536;
+  signal = l .signal;
+  irq13 = l .irq13;
 }
 
 -- an entry fills current, or the reserve if current is loaded
 abbrev pub filled : Fetched → Channel → Channel
 filled x ch = cond (ch .list .loaded)
-  (withList (holding true (Some (x .entry)) (noted x (ch .list))) ch)
-  (withList (holding true (ch .list .reserve) (noted x (ch .list))) (loadedWith (x .entry) ch))
+    (withList (holding true (Some (x .entry)) (noted x (ch .list))) ch)
+    (withList (holding true (ch .list .reserve) (noted x (ch .list))) (loadedWith (x .entry) ch))

@@ -21,5 +21,5 @@ seenIn (Err e) = record { address = 0; count = 0 }
 -- the current address and count; zeros where there is no such channel
 abbrev pub inspected : Registers → ℕ → Inspection
 inspected k c = cond (eqb (inspectNumber c) 0)
-  (record { address = channelOf k c .current .place .address; count = channelOf k c .current .count })
-  (record { address = 0; count = 0 })
+    (record { address = channelOf k c .current .place .address; count = channelOf k c .current .count })
+    (record { address = 0; count = 0 })

@@ -37,16 +37,33 @@ stepped ch = record { place = movedPlace (courseOf ch) (ch .current .place); cou
 
 abbrev pub withCurrent : Span → Channel → Channel
 withCurrent x ch = record {
-  base = ch .base; current = x; extended = ch .extended; mode = ch .mode; addressing = ch .addressing; timing = ch .timing;
-  line = ch .line; mask = ch .mask; request = ch .request; terminal = ch .terminal; list = ch .list;
+  base = ch .base;
+  current = x;
+  extended = ch .extended;
+  mode = ch .mode;
+  addressing = ch .addressing;
+  timing = ch .timing;
+  line = ch .line;
+  mask = ch .mask;
+  request = ch .request;
+  terminal = ch .terminal;
+  list = ch .list;
 }
 
 -- the end of a plain job: terminal count, no request; autoinitialise reloads base, otherwise the mask is set
 abbrev pub plainEnd : Channel → Channel
 plainEnd ch = record {
-  base = ch .base; current = cond (ch .mode .autoinitialise) (ch .base) (ch .current); extended = ch .extended; mode = ch .mode;
-  addressing = ch .addressing; timing = ch .timing; line = ch .line; mask = cond (ch .mode .autoinitialise) (ch .mask) true;
-  request = false; terminal = true; list = ch .list;
+  base = ch .base;
+  current = cond (ch .mode .autoinitialise) (ch .base) (ch .current);
+  extended = ch .extended;
+  mode = ch .mode;
+  addressing = ch .addressing;
+  timing = ch .timing;
+  line = ch .line;
+  mask = cond (ch .mode .autoinitialise) (ch .mask) true;
+  request = false;
+  terminal = true;
+  list = ch .list;
 }
 
 -- the registers that an entry is loaded into
@@ -56,22 +73,47 @@ entrySpan e = record { place = placeAt Bytes (e .address) 0; count = e .count }
 -- a list with or without a current entry, and with that reserve
 abbrev pub holding : Bool → Option Entry → Chain → Chain
 holding current reserve l = record {
-  pointer = l .pointer; next = l .next; active = l .active; loaded = current; reserve = reserve;
-  ended = l .ended; stopped = l .stopped; entries = l .entries; signal = l .signal; irq13 = l .irq13;
+  pointer = l .pointer;
+  next = l .next;
+  active = l .active;
+  loaded = current;
+  reserve = reserve;
+  ended = l .ended;
+  stopped = l .stopped;
+  entries = l .entries;
+  signal = l .signal;
+  irq13 = l .irq13;
 }
 
 -- an entry becomes current: its address is extended
 abbrev pub loadedWith : Entry → Channel → Channel
 loadedWith e ch = record {
-  base = ch .base; current = entrySpan e; extended = true; mode = ch .mode; addressing = ch .addressing; timing = ch .timing;
-  line = ch .line; mask = ch .mask; request = ch .request; terminal = ch .terminal; list = ch .list;
+  base = ch .base;
+  current = entrySpan e;
+  extended = true;
+  mode = ch .mode;
+  addressing = ch .addressing;
+  timing = ch .timing;
+  line = ch .line;
+  mask = ch .mask;
+  request = ch .request;
+  terminal = ch .terminal;
+  list = ch .list;
 }
 
 -- a list that is over by its end: inactive, nothing loaded; where IRQ13 is selected its bit is set
 abbrev pub endedList : Chain → Chain
 endedList l = record {
-  pointer = l .pointer; next = l .next; active = false; loaded = false; reserve = None;
-  ended = l .ended; stopped = l .stopped; entries = l .entries; signal = l .signal; irq13 = isIrq13 (l .signal) || l .irq13;
+  pointer = l .pointer;
+  next = l .next;
+  active = false;
+  loaded = false;
+  reserve = None;
+  ended = l .ended;
+  stopped = l .stopped;
+  entries = l .entries;
+  signal = l .signal;
+  irq13 = isIrq13 (l .signal) || l .irq13;
 }
 
 -- the end of a list: terminal count, no request, masked
@@ -86,8 +128,8 @@ closed l = l .ended || l .stopped
 abbrev pub entryEnd : Option Entry → Channel → Passed
 entryEnd (Some e) ch = record { channel = withList (holding true None (ch .list)) (loadedWith e ch); signal = None; over = true }
 entryEnd None ch = cond (closed (ch .list))
-  (record { channel = listEnd ch; signal = Some (ch .list .signal); over = true })
-  (record { channel = withList (holding false None (ch .list)) ch; signal = None; over = true })
+    (record { channel = listEnd ch; signal = Some (ch .list .signal); over = true })
+    (record { channel = withList (holding false None (ch .list)) ch; signal = None; over = true })
 
 -- a single service is over after one transfer
 abbrev pub isSingle : Service → Bool
@@ -103,8 +145,8 @@ countEnd ch = cond (ch .list .active) (entryEnd (ch .list .reserve) ch) (record 
 -- a channel after a transfer, the signal that it gives, and whether its service is over
 abbrev pub passed : Channel → Passed
 passed ch = cond (eqb (ch .current .count) 0)
-  (countEnd (withCurrent (stepped ch) ch))
-  (record { channel = withCurrent (stepped ch) ch; signal = None; over = isSingle (ch .mode .service) })
+    (countEnd (withCurrent (stepped ch) ch))
+    (record { channel = withCurrent (stepped ch) ch; signal = None; over = isSingle (ch .mode .service) })
 
 -- a fault sets the mask and clears the request bit, nothing else
 abbrev pub faulted : Channel → Channel

@@ -87,9 +87,11 @@ afterPass c p k = withService (served c (p .over)) (withChannel c (p .channel) k
 
 -- a transfer that came through moves its channel's registers
 abbrev pub moves : State → ℕ → Outside × Result ℕ Fault → State × Result Event Fault
-moves s c (o , Ok u) = (withWorld o (withRegisters (afterPass c (passed (channelOf (s .registers) c)) (s .registers)) s),
-  Ok (Moved c (passes (channelOf (s .registers) c)) u (passed (channelOf (s .registers) c) .signal)))
-moves s c (o , Err e) = (withWorld o s, Err e)
+moves s c (o, Ok u) = (
+  withWorld o (withRegisters (afterPass c (passed (channelOf (s .registers) c)) (s .registers)) s),
+  Ok (Moved c (passes (channelOf (s .registers) c)) u (passed (channelOf (s .registers) c) .signal)),
+)
+moves s c (o, Err e) = (withWorld o s, Err e)
 
 abbrev pub transferOf : State → ℕ → State × Result Event Fault
 transferOf s c = let ch = channelOf (s .registers) c in moves s c (carried (ch .mode .transfer) (s .world) c (ch .addressing) (passes ch))
@@ -109,16 +111,16 @@ lends s c = (withBus (Out c) s, Ok (Lent c))
 -- what a channel in service does: cascade, fetch without a current entry of its active list, else transfer
 abbrev pub serviceOf : State → ℕ → State × Result Event Fault
 serviceOf s c = let ch = channelOf (s .registers) c in
-  cond (isCascade (ch .mode .service)) (lends s c)
-  (cond (ch .list .active && not (ch .list .loaded)) (fetchStep s c) (transferOf s c))
+    cond (isCascade (ch .mode .service)) (lends s c)
+    (cond (ch .list .active && not (ch .list .loaded)) (fetchStep s c) (transferOf s c))
 
 -- a fault masks its channel, clears its request bit, and ends the service
 abbrev pub failed : ℕ → State → State
 failed c s = withRegisters (withService None (withChannel c (faulted (channelOf (s .registers) c)) (s .registers))) s
 
 abbrev pub settled : ℕ → State × Result Event Fault → State × Result Event Fault
-settled c (s , Ok e) = (s, Ok e)
-settled c (s , Err f) = (failed c s, Err f)
+settled c (s, Ok e) = (s, Ok e)
+settled c (s, Err f) = (failed c s, Err f)
 
 abbrev pub serve : State → ℕ → State × Result Event Fault
 serve s c = settled c (serviceOf s c)

@@ -37,7 +37,11 @@ fn first_open(registers: &Registers) -> bool
 fn allowed(registers: &Registers, c: u8) -> bool
     ensures { λ r. ⌜ r ≡ allowed (now (registers .entry)) c ⌝ }
 {
-    if c < 4 { first_open(registers) } else { second_open(registers) }
+    if c < 4 {
+        first_open(registers)
+    } else {
+        second_open(registers)
+    }
 }
 
 // Whether a channel asks.
@@ -48,7 +52,11 @@ pub fn asks(registers: &Registers, c: u8) -> bool
         return false;
     }
     let channel = registers.channel(c);
-    if c < 4 { wants(&registers.first, channel) } else { wants(&registers.second, channel) }
+    if c < 4 {
+        wants(&registers.first, channel)
+    } else {
+        wants(&registers.second, channel)
+    }
 }
 
 // Whether the service of a channel goes on.

@@ -53,22 +53,40 @@ fn first_read_only<M: Memory>(memory: &M, addressing: Addressing, address: u32) 
 }
 
 // Refused where a byte of the unit is absent.
-fn check_present<M: Memory>(memory: &M, channel: u8, addressing: Addressing, address: u32) -> Result<(), Fault>
+fn check_present<M: Memory>(
+    memory: &M,
+    channel: u8,
+    addressing: Addressing,
+    address: u32,
+) -> Result<(), Fault>
     ensures { λ r. ⌜ r ≡ presence (kindAt (now (memory .entry))) channel addressing address ⌝ }
 {
     match first_absent(memory, addressing, address) {
-        Some(at) => Err(Fault { cause: Cause::Absent, channel, address: at }),
+        Some(at) => Err(Fault {
+            cause: Cause::Absent,
+            channel,
+            address: at,
+        }),
         None => Ok(()),
     }
 }
 
 // Refused where a byte of the unit cannot be written.
-fn check_writable<M: Memory>(memory: &M, channel: u8, addressing: Addressing, address: u32) -> Result<(), Fault>
+fn check_writable<M: Memory>(
+    memory: &M,
+    channel: u8,
+    addressing: Addressing,
+    address: u32,
+) -> Result<(), Fault>
     ensures { λ r. ⌜ r ≡ writability (kindAt (now (memory .entry))) channel addressing address ⌝ }
 {
     check_present(memory, channel, addressing, address)?;
     match first_read_only(memory, addressing, address) {
-        Some(at) => Err(Fault { cause: Cause::ReadOnly, channel, address: at }),
+        Some(at) => Err(Fault {
+            cause: Cause::ReadOnly,
+            channel,
+            address: at,
+        }),
         None => Ok(()),
     }
 }
@@ -78,13 +96,23 @@ fn check_width(channel: u8, addressing: Addressing, address: u32, unit: u16) -> 
     ensures { λ r. ⌜ r ≡ width channel addressing address unit ⌝ }
 {
     match addressing {
-        Addressing::Bytes if unit > 255 => Err(Fault { cause: Cause::TooWide, channel, address }),
+        Addressing::Bytes if unit > 255 => Err(Fault {
+            cause: Cause::TooWide,
+            channel,
+            address,
+        }),
         _ => Ok(unit),
     }
 }
 
 // The unit that a device offers to memory, once every check has passed; nothing moves yet.
-fn offer<M: Memory, B: PortBank>(memory: &M, bank: &B, channel: u8, addressing: Addressing, address: u32) -> Result<u16, Fault>
+fn offer<M: Memory, B: PortBank>(
+    memory: &M,
+    bank: &B,
+    channel: u8,
+    addressing: Addressing,
+    address: u32,
+) -> Result<u16, Fault>
     ensures { λ r. ⌜ r ≡ offered (outside (kindAt (now (memory .entry))) (byteAt (now (memory .entry))) (waiting (now (bank .entry))) (kept (now (bank .entry))) (free (now (bank .entry)))) channel addressing address ⌝ }
 {
     check_writable(memory, channel, addressing, address)?;
@@ -93,7 +121,13 @@ fn offer<M: Memory, B: PortBank>(memory: &M, bank: &B, channel: u8, addressing: 
 }
 
 // A unit stored where every byte of it can be written.
-fn store<M: Memory>(memory: &mut M, channel: u8, addressing: Addressing, address: u32, unit: u16) -> Result<(), Fault>
+fn store<M: Memory>(
+    memory: &mut M,
+    channel: u8,
+    addressing: Addressing,
+    address: u32,
+    unit: u16,
+) -> Result<(), Fault>
     requires { ⌜ writability (kindAt (now memory)) channel addressing address ≡ Ok tt ⌝ ∗ ⌜ width channel addressing address unit ≡ Ok unit ⌝ }
     ensures answer { λ r. ⌜ r ≡ Ok tt ⌝ }
     ensures kinds { λ _. ⌜ kindAt (now (memory .exit)) ≡ kindAt (now (memory .entry)) ⌝ }
@@ -112,7 +146,13 @@ fn store<M: Memory>(memory: &mut M, channel: u8, addressing: Addressing, address
 }
 
 // A unit from a device to memory.
-fn carry_in<M: Memory, B: PortBank>(memory: &mut M, bank: &mut B, channel: u8, addressing: Addressing, address: u32) -> Result<u16, Fault>
+fn carry_in<M: Memory, B: PortBank>(
+    memory: &mut M,
+    bank: &mut B,
+    channel: u8,
+    addressing: Addressing,
+    address: u32,
+) -> Result<u16, Fault>
     ensures does { λ r. ⌜ Does (takeIn (outside (kindAt (now (memory .entry))) (byteAt (now (memory .entry))) (waiting (now (bank .entry))) (kept (now (bank .entry))) (free (now (bank .entry)))) channel addressing address (offered (outside (kindAt (now (memory .entry))) (byteAt (now (memory .entry))) (waiting (now (bank .entry))) (kept (now (bank .entry))) (free (now (bank .entry)))) channel addressing address)) (outside (kindAt (now (memory .exit))) (byteAt (now (memory .exit))) (waiting (now (bank .exit))) (kept (now (bank .exit))) (free (now (bank .exit)))) r ⌝ }
     ensures lenders { λ _. ⌜ fixed (now (memory .exit)) ≡ fixed (now (memory .entry)) ⌝ }
 {
@@ -123,7 +163,12 @@ fn carry_in<M: Memory, B: PortBank>(memory: &mut M, bank: &mut B, channel: u8, a
 }
 
 // The unit that memory shows at an address.
-fn load<M: Memory>(memory: &M, channel: u8, addressing: Addressing, address: u32) -> Result<u16, Fault>
+fn load<M: Memory>(
+    memory: &M,
+    channel: u8,
+    addressing: Addressing,
+    address: u32,
+) -> Result<u16, Fault>
     ensures { λ r. ⌜ r ≡ andThen (presence (kindAt (now (memory .entry))) channel addressing address) (Ok (readUnit addressing (byteAt (now (memory .entry))) address)) ⌝ }
 {
     check_present(memory, channel, addressing, address)?;
@@ -139,7 +184,13 @@ fn load<M: Memory>(memory: &M, channel: u8, addressing: Addressing, address: u32
 }
 
 // A unit from memory to a device.
-fn carry_out<M: Memory, B: PortBank>(memory: &M, bank: &mut B, channel: u8, addressing: Addressing, address: u32) -> Result<u16, Fault>
+fn carry_out<M: Memory, B: PortBank>(
+    memory: &M,
+    bank: &mut B,
+    channel: u8,
+    addressing: Addressing,
+    address: u32,
+) -> Result<u16, Fault>
     ensures { λ r. ⌜ Does (giveOut (outside (kindAt (now (memory .entry))) (byteAt (now (memory .entry))) (waiting (now (bank .entry))) (kept (now (bank .entry))) (free (now (bank .entry)))) channel (wanted (outside (kindAt (now (memory .entry))) (byteAt (now (memory .entry))) (waiting (now (bank .entry))) (kept (now (bank .entry))) (free (now (bank .entry)))) channel addressing address)) (outside (kindAt (now (memory .entry))) (byteAt (now (memory .entry))) (waiting (now (bank .exit))) (kept (now (bank .exit))) (free (now (bank .exit)))) r ⌝ }
 {
     let unit = load(memory, channel, addressing, address)?;
@@ -148,7 +199,14 @@ fn carry_out<M: Memory, B: PortBank>(memory: &M, bank: &mut B, channel: u8, addr
 }
 
 // A transfer of one unit.
-pub(crate) fn carry<M: Memory, B: PortBank>(transfer: Transfer, memory: &mut M, bank: &mut B, channel: u8, addressing: Addressing, address: u32) -> Result<u16, Fault>
+pub(crate) fn carry<M: Memory, B: PortBank>(
+    transfer: Transfer,
+    memory: &mut M,
+    bank: &mut B,
+    channel: u8,
+    addressing: Addressing,
+    address: u32,
+) -> Result<u16, Fault>
     ensures does { λ r. ⌜ Does (carried transfer (outside (kindAt (now (memory .entry))) (byteAt (now (memory .entry))) (waiting (now (bank .entry))) (kept (now (bank .entry))) (free (now (bank .entry)))) channel addressing address) (outside (kindAt (now (memory .exit))) (byteAt (now (memory .exit))) (waiting (now (bank .exit))) (kept (now (bank .exit))) (free (now (bank .exit)))) r ⌝ }
     ensures lenders { λ _. ⌜ fixed (now (memory .exit)) ≡ fixed (now (memory .entry)) ⌝ }
 {

@@ -26,7 +26,10 @@ impl Controller {
     pub fn new() -> Controller
         ensures { λ r. ⌜ ((o : Outside) → stateOf r o ≡ fresh o) ⌝ }
     {
-        Controller { registers: Registers::new(), bus: Bus::Home }
+        Controller {
+            registers: Registers::new(),
+            bus: Bus::Home,
+        }
     }
 
     // A byte written to a port by the driver.

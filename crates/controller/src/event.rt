@@ -8,9 +8,19 @@ pub enum Event {
     // the bus is out
     Away,
     // the bus goes out to a cascade channel
-    Lent { channel: u8 },
+    Lent {
+        channel: u8,
+    },
     // an entry fetched, by the place of its first byte
-    Fetched { channel: u8, address: u32 },
+    Fetched {
+        channel: u8,
+        address: u32,
+    },
     // a unit transferred at an address, and the signal that it gave
-    Moved { channel: u8, address: u32, unit: u16, signal: Option<Signal> },
+    Moved {
+        channel: u8,
+        address: u32,
+        unit: u16,
+        signal: Option<Signal>,
+    },
 }

@@ -61,24 +61,52 @@ impl Cause {
 }
 
 // A memory's answer, with the channel and the address that it was asked for.
-pub(crate) fn at_memory<T>(answer: Result<T, MemoryFault>, channel: u8, address: u32) -> Result<T, Fault>
+pub(crate) fn at_memory<T>(
+    answer: Result<T, MemoryFault>,
+    channel: u8,
+    address: u32,
+) -> Result<T, Fault>
     ensures { λ r. ⌜ r ≡ atMemory channel address answer ⌝ }
 {
     match answer {
         Ok(value) => Ok(value),
-        Err(MemoryFault::Absent) => Err(Fault { cause: Cause::Absent, channel, address }),
-        Err(MemoryFault::ReadOnly) => Err(Fault { cause: Cause::ReadOnly, channel, address }),
+        Err(MemoryFault::Absent) => Err(Fault {
+            cause: Cause::Absent,
+            channel,
+            address,
+        }),
+        Err(MemoryFault::ReadOnly) => Err(Fault {
+            cause: Cause::ReadOnly,
+            channel,
+            address,
+        }),
     }
 }
 
 // A bank's answer, with the channel and the address of the transfer.
-pub(crate) fn at_port<T>(answer: Result<T, PortFault>, channel: u8, address: u32) -> Result<T, Fault>
+pub(crate) fn at_port<T>(
+    answer: Result<T, PortFault>,
+    channel: u8,
+    address: u32,
+) -> Result<T, Fault>
     ensures { λ r. ⌜ r ≡ atPort channel address answer ⌝ }
 {
     match answer {
         Ok(value) => Ok(value),
-        Err(PortFault::NothingWaits) => Err(Fault { cause: Cause::NothingWaits, channel, address }),
-        Err(PortFault::NoPlace) => Err(Fault { cause: Cause::NoPlace, channel, address }),
-        Err(PortFault::NoSuchChannel) => Err(Fault { cause: Cause::NoSuchChannel, channel, address }),
+        Err(PortFault::NothingWaits) => Err(Fault {
+            cause: Cause::NothingWaits,
+            channel,
+            address,
+        }),
+        Err(PortFault::NoPlace) => Err(Fault {
+            cause: Cause::NoPlace,
+            channel,
+            address,
+        }),
+        Err(PortFault::NoSuchChannel) => Err(Fault {
+            cause: Cause::NoSuchChannel,
+            channel,
+            address,
+        }),
     }
 }

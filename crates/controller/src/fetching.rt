@@ -34,7 +34,11 @@ fn read_byte<M: Memory>(memory: &M, channel: u8, place: u32) -> Result<u8, Fault
 {
     match memory.read(place) {
         Ok(value) => Ok(value),
-        Err(_) => Err(Fault { cause: Cause::EntryAbsent, channel, address: place }),
+        Err(_) => Err(Fault {
+            cause: Cause::EntryAbsent,
+            channel,
+            address: place,
+        }),
     }
 }
 
@@ -51,7 +55,10 @@ fn read_word<M: Memory>(memory: &M, channel: u8, start: u32) -> Result<Word, Fau
     place = place.wrapping_add(1);
     let d = read_byte(memory, channel, place)?;
     place = place.wrapping_add(1);
-    Ok(Word { value: u32::from_le_bytes([a, b, c, d]), next: place })
+    Ok(Word {
+        value: u32::from_le_bytes([a, b, c, d]),
+        next: place,
+    })
 }
 
 // The entry at a place: an address, then a count and the end mark.
@@ -60,8 +67,15 @@ fn read_entry<M: Memory>(memory: &M, channel: u8, start: u32) -> Result<Fetched,
 {
     let address = read_word(memory, channel, start)?;
     let rest = read_word(memory, channel, address.next)?;
-    let entry = Entry { address: address.value, count: (rest.value % 0x1_0000) as u16 };
-    Ok(Fetched { entry, last: rest.value >= 0x8000_0000, next: rest.next })
+    let entry = Entry {
+        address: address.value,
+        count: (rest.value % 0x1_0000) as u16,
+    };
+    Ok(Fetched {
+        entry,
+        last: rest.value >= 0x8000_0000,
+        next: rest.next,
+    })
 }
 
 // What a list fetches from its next place.
@@ -69,7 +83,11 @@ pub(crate) fn fetch<M: Memory>(memory: &M, channel: u8, list: List) -> Result<Fe
     ensures { λ r. ⌜ r ≡ fetchOf (kindAt (now (memory .entry))) (byteAt (now (memory .entry))) channel list ⌝ }
 {
     if list.entries >= MOST_ENTRIES {
-        return Err(Fault { cause: Cause::TooManyEntries, channel, address: 0 });
+        return Err(Fault {
+            cause: Cause::TooManyEntries,
+            channel,
+            address: 0,
+        });
     }
     read_entry(memory, channel, list.next)
 }
@@ -79,9 +97,24 @@ pub(crate) fn fill(fetched: Fetched, channel: Channel) -> Channel
     ensures { λ r. ⌜ r ≡ filled fetched channel ⌝ }
 {
     let entries = channel.list.entries.wrapping_add(1);
-    let list = List { next: fetched.next, entries, ended: fetched.last, loaded: true, ..channel.list };
+    let list = List {
+        next: fetched.next,
+        entries,
+        ended: fetched.last,
+        loaded: true,
+        ..channel.list
+    };
     if channel.list.loaded {
-        return Channel { list: List { reserve: Some(fetched.entry), ..list }, ..channel };
+        return Channel {
+            list: List {
+                reserve: Some(fetched.entry),
+                ..list
+            },
+            ..channel
+        };
     }
-    Channel { list, ..load_current(fetched.entry, channel) }
+    Channel {
+        list,
+        ..load_current(fetched.entry, channel)
+    }
 }

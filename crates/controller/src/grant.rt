@@ -89,7 +89,12 @@ impl Controller {
     }
 
     // One byte read or written under a grant.
-    pub fn cycle<M: Memory>(&self, grant: &Grant, memory: &mut M, cycle: Cycle) -> Result<u8, BusRefusal>
+    pub fn cycle<M: Memory>(
+        &self,
+        grant: &Grant,
+        memory: &mut M,
+        cycle: Cycle,
+    ) -> Result<u8, BusRefusal>
         ensures state { λ _. ⌜ ((o : Outside) → o .kinds ≡ kindAt (now (memory .entry)) → o .bytes ≡ byteAt (now (memory .entry)) → stateOf (now (self .entry)) (outside (kindAt (now (memory .exit))) (byteAt (now (memory .exit))) (o .waiting) (o .kept) (o .free)) ≡ afterCycle (now (grant .entry) .channel) cycle (stateOf (now (self .entry)) o)) ⌝ }
         ensures answer { λ r. ⌜ ((o : Outside) → o .kinds ≡ kindAt (now (memory .entry)) → shownBus r ≡ cycleNumber (stateOf (now (self .entry)) o) (now (grant .entry) .channel) cycle) ⌝ }
         ensures value { λ r. ⌜ ((o : Outside) → o .kinds ≡ kindAt (now (memory .entry)) → o .bytes ≡ byteAt (now (memory .entry)) → byteIn r ≡ cycleValue (stateOf (now (self .entry)) o) (now (grant .entry) .channel) cycle) ⌝ }

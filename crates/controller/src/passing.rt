@@ -23,7 +23,11 @@ pub struct Passed {
 fn course(channel: Channel) -> Course
     ensures { λ r. ⌜ r ≡ courseOf channel ⌝ }
 {
-    Course { addressing: channel.addressing, extended: channel.extended, decrement: channel.mode.decrement }
+    Course {
+        addressing: channel.addressing,
+        extended: channel.extended,
+        decrement: channel.mode.decrement,
+    }
 }
 
 // The address that a channel's next transfer passes.
@@ -38,32 +42,52 @@ fn step_span(channel: Channel) -> Span
     ensures { λ r. ⌜ r ≡ stepped channel ⌝ }
 {
     let Span { place, count } = channel.current;
-    Span { place: place.moved(course(channel)), count: count.wrapping_sub(1) }
+    Span {
+        place: place.moved(course(channel)),
+        count: count.wrapping_sub(1),
+    }
 }
 
 // The registers that an entry is loaded into.
 fn entry_span(entry: Entry) -> Span
     ensures { λ r. ⌜ r ≡ entrySpan entry ⌝ }
 {
-    Span { place: Place::at(entry.address, Addressing::Bytes, 0), count: entry.count }
+    Span {
+        place: Place::at(entry.address, Addressing::Bytes, 0),
+        count: entry.count,
+    }
 }
 
 // An entry becomes current.
 pub(crate) fn load_current(entry: Entry, channel: Channel) -> Channel
     ensures { λ r. ⌜ r ≡ loadedWith entry channel ⌝ }
 {
-    Channel { current: entry_span(entry), extended: true, ..channel }
+    Channel {
+        current: entry_span(entry),
+        extended: true,
+        ..channel
+    }
 }
 
 // The end of a plain job.
 fn end_plain(channel: Channel) -> Channel
     ensures { λ r. ⌜ r ≡ plainEnd channel ⌝ }
 {
-    let ended = Channel { request: false, terminal: true, ..channel };
+    let ended = Channel {
+        request: false,
+        terminal: true,
+        ..channel
+    };
     if channel.mode.autoinitialise {
-        Channel { current: channel.base, ..ended }
+        Channel {
+            current: channel.base,
+            ..ended
+        }
     } else {
-        Channel { mask: true, ..ended }
+        Channel {
+            mask: true,
+            ..ended
+        }
     }
 }
 
@@ -75,8 +99,20 @@ fn end_list(channel: Channel) -> Channel
         Signal::Eop => channel.list.irq13,
         Signal::Irq13 => true,
     };
-    let list = List { active: false, loaded: false, reserve: None, irq13, ..channel.list };
-    Channel { mask: true, request: false, terminal: true, list, ..channel }
+    let list = List {
+        active: false,
+        loaded: false,
+        reserve: None,
+        irq13,
+        ..channel.list
+    };
+    Channel {
+        mask: true,
+        request: false,
+        terminal: true,
+        list,
+        ..channel
+    }
 }
 
 // The end of an entry.
@@ -86,14 +122,29 @@ fn end_entry(channel: Channel) -> Passed
     let mut list = channel.list;
     if let Some(entry) = list.reserve.take() {
         list.loaded = true;
-        let channel = Channel { list, ..load_current(entry, channel) };
-        return Passed { channel, signal: None, over: true };
+        let channel = Channel {
+            list,
+            ..load_current(entry, channel)
+        };
+        return Passed {
+            channel,
+            signal: None,
+            over: true,
+        };
     }
     if list.ended || list.stopped {
-        return Passed { channel: end_list(channel), signal: Some(list.signal), over: true };
+        return Passed {
+            channel: end_list(channel),
+            signal: Some(list.signal),
+            over: true,
+        };
     }
     list.loaded = false;
-    Passed { channel: Channel { list, ..channel }, signal: None, over: true }
+    Passed {
+        channel: Channel { list, ..channel },
+        signal: None,
+        over: true,
+    }
 }
 
 // The end of a count.
@@ -103,14 +154,21 @@ fn end_count(channel: Channel) -> Passed
     if channel.list.active {
         return end_entry(channel);
     }
-    Passed { channel: end_plain(channel), signal: Some(Signal::Eop), over: true }
+    Passed {
+        channel: end_plain(channel),
+        signal: Some(Signal::Eop),
+        over: true,
+    }
 }
 
 // A channel after a transfer.
 pub(crate) fn pass(channel: Channel) -> Passed
     ensures { λ r. ⌜ r ≡ passed channel ⌝ }
 {
-    let moved = Channel { current: step_span(channel), ..channel };
+    let moved = Channel {
+        current: step_span(channel),
+        ..channel
+    };
     if channel.current.count == 0 {
         return end_count(moved);
     }
@@ -118,12 +176,20 @@ pub(crate) fn pass(channel: Channel) -> Passed
         Service::Single => true,
         _ => false,
     };
-    Passed { channel: moved, signal: None, over }
+    Passed {
+        channel: moved,
+        signal: None,
+        over,
+    }
 }
 
 // A channel after a fault.
 pub(crate) fn fail(channel: Channel) -> Channel
     ensures { λ r. ⌜ r ≡ faulted channel ⌝ }
 {
-    Channel { mask: true, request: false, ..channel }
+    Channel {
+        mask: true,
+        request: false,
+        ..channel
+    }
 }

@@ -29,27 +29,62 @@ use registers::mode::Service;
 fn choose(registers: &Registers) -> Option<Choice>
     ensures { λ r. ⌜ r ≡ choiceOf (now (registers .entry)) ⌝ }
 {
-    let first = mask(asks(registers, 0), asks(registers, 1), asks(registers, 2), asks(registers, 3));
-    let second = mask(false, asks(registers, 5), asks(registers, 6), asks(registers, 7));
+    let first = mask(
+        asks(registers, 0),
+        asks(registers, 1),
+        asks(registers, 2),
+        asks(registers, 3),
+    );
+    let second = mask(
+        false,
+        asks(registers, 5),
+        asks(registers, 6),
+        asks(registers, 7),
+    );
     winner(
-        Side { asking: first, rotating: registers.first.rotating, last: registers.first.last },
-        Side { asking: second, rotating: registers.second.rotating, last: registers.second.last },
+        Side {
+            asking: first,
+            rotating: registers.first.rotating,
+            last: registers.first.last,
+        },
+        Side {
+            asking: second,
+            rotating: registers.second.rotating,
+            last: registers.second.last,
+        },
     )
 }
 
 impl Controller {
     // A transfer of a channel's unit; a fault leaves everything.
-    fn transfer<M: Memory, B: PortBank>(&mut self, c: u8, memory: &mut M, bank: &mut B) -> Result<Event, Fault>
+    fn transfer<M: Memory, B: PortBank>(
+        &mut self,
+        c: u8,
+        memory: &mut M,
+        bank: &mut B,
+    ) -> Result<Event, Fault>
         ensures does { λ r. ⌜ Does (transferOf (stateOf (now (self .entry)) (outside (kindAt (now (memory .entry))) (byteAt (now (memory .entry))) (waiting (now (bank .entry))) (kept (now (bank .entry))) (free (now (bank .entry))))) c) (stateOf (now (self .exit)) (outside (kindAt (now (memory .exit))) (byteAt (now (memory .exit))) (waiting (now (bank .exit))) (kept (now (bank .exit))) (free (now (bank .exit))))) r ⌝ }
         ensures lenders { λ _. ⌜ fixed (now (memory .exit)) ≡ fixed (now (memory .entry)) ⌝ }
     {
         let channel = self.registers.channel(c);
         let at = address(channel);
-        let unit = carry(channel.mode.transfer, memory, bank, c, channel.addressing, at)?;
+        let unit = carry(
+            channel.mode.transfer,
+            memory,
+            bank,
+            c,
+            channel.addressing,
+            at,
+        )?;
         let passed = pass(channel);
         self.registers.put(c, passed.channel);
         self.registers.service = if passed.over { None } else { Some(c) };
-        Ok(Event::Moved { channel: c, address: at, unit, signal: passed.signal })
+        Ok(Event::Moved {
+            channel: c,
+            address: at,
+            unit,
+            signal: passed.signal,
+        })
     }
 
     // A fetch of a channel's next entry; a fault leaves everything.
@@ -59,11 +94,19 @@ impl Controller {
         let channel = self.registers.channel(c);
         let fetched = fetch(memory, c, channel.list)?;
         self.registers.put(c, fill(fetched, channel));
-        Ok(Event::Fetched { channel: c, address: channel.list.next })
+        Ok(Event::Fetched {
+            channel: c,
+            address: channel.list.next,
+        })
     }
 
     // What a channel in service does: it lends the bus, fetches, or transfers.
-    fn work<M: Memory, B: PortBank>(&mut self, c: u8, memory: &mut M, bank: &mut B) -> Result<Event, Fault>
+    fn work<M: Memory, B: PortBank>(
+        &mut self,
+        c: u8,
+        memory: &mut M,
+        bank: &mut B,
+    ) -> Result<Event, Fault>
         ensures does { λ r. ⌜ Does (serviceOf (stateOf (now (self .entry)) (outside (kindAt (now (memory .entry))) (byteAt (now (memory .entry))) (waiting (now (bank .entry))) (kept (now (bank .entry))) (free (now (bank .entry))))) c) (stateOf (now (self .exit)) (outside (kindAt (now (memory .exit))) (byteAt (now (memory .exit))) (waiting (now (bank .exit))) (kept (now (bank .exit))) (free (now (bank .exit))))) r ⌝ }
         ensures lenders { λ _. ⌜ fixed (now (memory .exit)) ≡ fixed (now (memory .entry)) ⌝ }
     {
@@ -91,7 +134,12 @@ impl Controller {
     }
 
     // A channel in service.
-    fn serve<M: Memory, B: PortBank>(&mut self, c: u8, memory: &mut M, bank: &mut B) -> Result<Event, Fault>
+    fn serve<M: Memory, B: PortBank>(
+        &mut self,
+        c: u8,
+        memory: &mut M,
+        bank: &mut B,
+    ) -> Result<Event, Fault>
         ensures does { λ r. ⌜ Does (serve (stateOf (now (self .entry)) (outside (kindAt (now (memory .entry))) (byteAt (now (memory .entry))) (waiting (now (bank .entry))) (kept (now (bank .entry))) (free (now (bank .entry))))) c) (stateOf (now (self .exit)) (outside (kindAt (now (memory .exit))) (byteAt (now (memory .exit))) (waiting (now (bank .exit))) (kept (now (bank .exit))) (free (now (bank .exit))))) r ⌝ }
         ensures lenders { λ _. ⌜ fixed (now (memory .exit)) ≡ fixed (now (memory .entry)) ⌝ }
     {
@@ -124,7 +172,11 @@ impl Controller {
     }
 
     // A channel is chosen, or nobody asks.
-    fn choose_anew<M: Memory, B: PortBank>(&mut self, memory: &mut M, bank: &mut B) -> Result<Event, Fault>
+    fn choose_anew<M: Memory, B: PortBank>(
+        &mut self,
+        memory: &mut M,
+        bank: &mut B,
+    ) -> Result<Event, Fault>
         ensures does { λ r. ⌜ Does (chooseOf (stateOf (now (self .entry)) (outside (kindAt (now (memory .entry))) (byteAt (now (memory .entry))) (waiting (now (bank .entry))) (kept (now (bank .entry))) (free (now (bank .entry))))) (choiceOf (now (self .entry) .registers))) (stateOf (now (self .exit)) (outside (kindAt (now (memory .exit))) (byteAt (now (memory .exit))) (waiting (now (bank .exit))) (kept (now (bank .exit))) (free (now (bank .exit))))) r ⌝ }
         ensures lenders { λ _. ⌜ fixed (now (memory .exit)) ≡ fixed (now (memory .entry)) ⌝ }
     {
@@ -151,7 +203,11 @@ impl Controller {
     }
 
     // Does one thing, and answers it.
-    pub fn step<M: Memory, B: PortBank>(&mut self, memory: &mut M, bank: &mut B) -> Result<Event, Fault>
+    pub fn step<M: Memory, B: PortBank>(
+        &mut self,
+        memory: &mut M,
+        bank: &mut B,
+    ) -> Result<Event, Fault>
         ensures does { λ r. ⌜ Does (stepOf (stateOf (now (self .entry)) (outside (kindAt (now (memory .entry))) (byteAt (now (memory .entry))) (waiting (now (bank .entry))) (kept (now (bank .entry))) (free (now (bank .entry)))))) (stateOf (now (self .exit)) (outside (kindAt (now (memory .exit))) (byteAt (now (memory .exit))) (waiting (now (bank .exit))) (kept (now (bank .exit))) (free (now (bank .exit))))) r ⌝ }
         ensures lenders { λ _. ⌜ fixed (now (memory .exit)) ≡ fixed (now (memory .entry)) ⌝ }
     {

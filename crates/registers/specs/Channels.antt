@@ -43,22 +43,48 @@ restSpan = record { place = restPlace; count = 0 }
 -- no list: nothing active, loaded, fetched or stopped, and EOP selected
 abbrev pub restList : ℕ → Chain
 restList pointer = record {
-  pointer = pointer; next = 0; active = false; loaded = false; reserve = None; ended = false; stopped = false;
-  entries = 0; signal = Eop; irq13 = false;
+  pointer = pointer;
+  next = 0;
+  active = false;
+  loaded = false;
+  reserve = None;
+  ended = false;
+  stopped = false;
+  entries = 0;
+  signal = Eop;
+  irq13 = false;
 }
 
 -- a channel whose registers are all 0
 abbrev pub blank : Channel
 blank = record {
-  base = restSpan; current = restSpan; extended = false; mode = restMode; addressing = Bytes; timing = 0;
-  line = false; mask = false; request = false; terminal = false; list = restList 0;
+  base = restSpan;
+  current = restSpan;
+  extended = false;
+  mode = restMode;
+  addressing = Bytes;
+  timing = 0;
+  line = false;
+  mask = false;
+  request = false;
+  terminal = false;
+  list = restList 0;
 }
 
 -- a new channel: masked, all else 0 but the addressing
 abbrev pub fresh : Addressing → Channel
 fresh words = record {
-  base = restSpan; current = restSpan; extended = false; mode = restMode; addressing = words; timing = 0;
-  line = false; mask = true; request = false; terminal = false; list = restList 0;
+  base = restSpan;
+  current = restSpan;
+  extended = false;
+  mode = restMode;
+  addressing = words;
+  timing = 0;
+  line = false;
+  mask = true;
+  request = false;
+  terminal = false;
+  list = restList 0;
 }
 
 -- one byte of the address replaced, and the high page zeroed
@@ -80,83 +106,187 @@ counted high v x = record { place = x .place; count = putByte high v (x .count) 
 -- an address byte goes to base and current; addressing is no longer extended, and both high pages are 0
 abbrev pub withAddress : Bool → ℕ → Channel → Channel
 withAddress high v ch = record {
-  base = addressed high v (ch .base); current = addressed high v (ch .current);
-  extended = false; mode = ch .mode; addressing = ch .addressing; timing = ch .timing;
-  line = ch .line; mask = ch .mask; request = ch .request; terminal = ch .terminal; list = ch .list;
+  base = addressed high v (ch .base);
+  current = addressed high v (ch .current);
+  extended = false;
+  mode = ch .mode;
+  addressing = ch .addressing;
+  timing = ch .timing;
+  line = ch .line;
+  mask = ch .mask;
+  request = ch .request;
+  terminal = ch .terminal;
+  list = ch .list;
 }
 
 -- a count byte goes to base and current
 abbrev pub withCount : Bool → ℕ → Channel → Channel
 withCount high v ch = record {
-  base = counted high v (ch .base); current = counted high v (ch .current);
-  extended = ch .extended; mode = ch .mode; addressing = ch .addressing; timing = ch .timing;
-  line = ch .line; mask = ch .mask; request = ch .request; terminal = ch .terminal; list = ch .list;
+  base = counted high v (ch .base);
+  current = counted high v (ch .current);
+  extended = ch .extended;
+  mode = ch .mode;
+  addressing = ch .addressing;
+  timing = ch .timing;
+  line = ch .line;
+  mask = ch .mask;
+  request = ch .request;
+  terminal = ch .terminal;
+  list = ch .list;
 }
 
 -- the low page goes to base and current; addressing is no longer extended, and both high pages are 0
 abbrev pub withLow : ℕ → Channel → Channel
 withLow v ch = record {
-  base = lowPaged v (ch .base); current = lowPaged v (ch .current);
-  extended = false; mode = ch .mode; addressing = ch .addressing; timing = ch .timing;
-  line = ch .line; mask = ch .mask; request = ch .request; terminal = ch .terminal; list = ch .list;
+  base = lowPaged v (ch .base);
+  current = lowPaged v (ch .current);
+  extended = false;
+  mode = ch .mode;
+  addressing = ch .addressing;
+  timing = ch .timing;
+  line = ch .line;
+  mask = ch .mask;
+  request = ch .request;
+  terminal = ch .terminal;
+  list = ch .list;
 }
 
 -- the high page goes to base and current, and addressing is extended
 abbrev pub withHigh : ℕ → Channel → Channel
 withHigh v ch = record {
-  base = highPaged v (ch .base); current = highPaged v (ch .current);
-  extended = true; mode = ch .mode; addressing = ch .addressing; timing = ch .timing;
-  line = ch .line; mask = ch .mask; request = ch .request; terminal = ch .terminal; list = ch .list;
+  base = highPaged v (ch .base);
+  current = highPaged v (ch .current);
+  extended = true;
+  mode = ch .mode;
+  addressing = ch .addressing;
+  timing = ch .timing;
+  line = ch .line;
+  mask = ch .mask;
+  request = ch .request;
+  terminal = ch .terminal;
+  list = ch .list;
 }
 
 abbrev pub withMode : Mode → Channel → Channel
 withMode m ch = record {
-  base = ch .base; current = ch .current; extended = ch .extended; mode = m; addressing = ch .addressing; timing = ch .timing;
-  line = ch .line; mask = ch .mask; request = ch .request; terminal = ch .terminal; list = ch .list;
+  base = ch .base;
+  current = ch .current;
+  extended = ch .extended;
+  mode = m;
+  addressing = ch .addressing;
+  timing = ch .timing;
+  line = ch .line;
+  mask = ch .mask;
+  request = ch .request;
+  terminal = ch .terminal;
+  list = ch .list;
 }
 
 -- the extended mode's byte: bits 5:4 timing, 3:2 addressing
 abbrev pub withExtendedMode : ℕ → Channel → Channel
 withExtendedMode v ch = record {
-  base = ch .base; current = ch .current; extended = ch .extended; mode = ch .mode; addressing = cond (eqb (v / 4 % 4) 0) Bytes Words; timing = v / 16 % 4;
-  line = ch .line; mask = ch .mask; request = ch .request; terminal = ch .terminal; list = ch .list;
+  base = ch .base;
+  current = ch .current;
+  extended = ch .extended;
+  mode = ch .mode;
+  addressing = cond (eqb (v / 4 % 4) 0) Bytes Words;
+  timing = v / 16 % 4;
+  line = ch .line;
+  mask = ch .mask;
+  request = ch .request;
+  terminal = ch .terminal;
+  list = ch .list;
 }
 
 abbrev pub withLine : Bool → Channel → Channel
 withLine b ch = record {
-  base = ch .base; current = ch .current; extended = ch .extended; mode = ch .mode; addressing = ch .addressing; timing = ch .timing;
-  line = b; mask = ch .mask; request = ch .request; terminal = ch .terminal; list = ch .list;
+  base = ch .base;
+  current = ch .current;
+  extended = ch .extended;
+  mode = ch .mode;
+  addressing = ch .addressing;
+  timing = ch .timing;
+  line = b;
+  mask = ch .mask;
+  request = ch .request;
+  terminal = ch .terminal;
+  list = ch .list;
 }
 
 abbrev pub withMask : Bool → Channel → Channel
 withMask b ch = record {
-  base = ch .base; current = ch .current; extended = ch .extended; mode = ch .mode; addressing = ch .addressing; timing = ch .timing;
-  line = ch .line; mask = b; request = ch .request; terminal = ch .terminal; list = ch .list;
+  base = ch .base;
+  current = ch .current;
+  extended = ch .extended;
+  mode = ch .mode;
+  addressing = ch .addressing;
+  timing = ch .timing;
+  line = ch .line;
+  mask = b;
+  request = ch .request;
+  terminal = ch .terminal;
+  list = ch .list;
 }
 
 abbrev pub withRequest : Bool → Channel → Channel
 withRequest b ch = record {
-  base = ch .base; current = ch .current; extended = ch .extended; mode = ch .mode; addressing = ch .addressing; timing = ch .timing;
-  line = ch .line; mask = ch .mask; request = b; terminal = ch .terminal; list = ch .list;
+  base = ch .base;
+  current = ch .current;
+  extended = ch .extended;
+  mode = ch .mode;
+  addressing = ch .addressing;
+  timing = ch .timing;
+  line = ch .line;
+  mask = ch .mask;
+  request = b;
+  terminal = ch .terminal;
+  list = ch .list;
 }
 
 abbrev pub withTerminal : Bool → Channel → Channel
 withTerminal b ch = record {
-  base = ch .base; current = ch .current; extended = ch .extended; mode = ch .mode; addressing = ch .addressing; timing = ch .timing;
-  line = ch .line; mask = ch .mask; request = ch .request; terminal = b; list = ch .list;
+  base = ch .base;
+  current = ch .current;
+  extended = ch .extended;
+  mode = ch .mode;
+  addressing = ch .addressing;
+  timing = ch .timing;
+  line = ch .line;
+  mask = ch .mask;
+  request = ch .request;
+  terminal = b;
+  list = ch .list;
 }
 
 abbrev pub withList : Chain → Channel → Channel
 withList l ch = record {
-  base = ch .base; current = ch .current; extended = ch .extended; mode = ch .mode; addressing = ch .addressing; timing = ch .timing;
-  line = ch .line; mask = ch .mask; request = ch .request; terminal = ch .terminal; list = l;
+  base = ch .base;
+  current = ch .current;
+  extended = ch .extended;
+  mode = ch .mode;
+  addressing = ch .addressing;
+  timing = ch .timing;
+  line = ch .line;
+  mask = ch .mask;
+  request = ch .request;
+  terminal = ch .terminal;
+  list = l;
 }
 
 -- master clear: masked, no request, no terminal count, no list; line, registers, modes and table pointer stay
 abbrev pub cleared : Channel → Channel
 cleared ch = record {
-  base = ch .base; current = ch .current; extended = ch .extended; mode = ch .mode; addressing = ch .addressing; timing = ch .timing;
-  line = ch .line; mask = true; request = false; terminal = false; list = restList (ch .list .pointer);
+  base = ch .base;
+  current = ch .current;
+  extended = ch .extended;
+  mode = ch .mode;
+  addressing = ch .addressing;
+  timing = ch .timing;
+  line = ch .line;
+  mask = true;
+  request = false;
+  terminal = false;
+  list = restList (ch .list .pointer);
 }
 
 -- byte k of the table pointer
@@ -166,8 +296,16 @@ tableByte k l = getD (bytesOf (l .pointer)) (k % 4) 0
 -- byte k of the table pointer replaced
 unfoldable pub withTableByte : ℕ → ℕ → Channel → Channel
 withTableByte k v ch = let l = ch .list in withList (record {
-  pointer = fromBytes (set (bytesOf (l .pointer)) (k % 4) v); next = l .next; active = l .active; loaded = l .loaded; reserve = l .reserve;
-  ended = l .ended; stopped = l .stopped; entries = l .entries; signal = l .signal; irq13 = l .irq13;
+  pointer = fromBytes (set (bytesOf (l .pointer)) (k % 4) v);
+  next = l .next;
+  active = l .active;
+  loaded = l .loaded;
+  reserve = l .reserve;
+  ended = l .ended;
+  stopped = l .stopped;
+  entries = l .entries;
+  signal = l .signal;
+  irq13 = l .irq13;
 }) ch
 
 -- what the end of a list will signal: with bit 6 set, bit 7 selects EOP or IRQ13; else it stays
@@ -177,41 +315,73 @@ selected v s = cond (flag 64 v) (cond (flag 128 v) Eop Irq13) s
 -- an accepted list command selects the signal and clears the IRQ13 bit
 abbrev pub commanded : ℕ → Chain → Chain
 commanded v l = record {
-  pointer = l .pointer; next = l .next; active = l .active; loaded = l .loaded; reserve = l .reserve;
-  ended = l .ended; stopped = l .stopped; entries = l .entries; signal = selected v (l .signal); irq13 = false;
+  pointer = l .pointer;
+  next = l .next;
+  active = l .active;
+  loaded = l .loaded;
+  reserve = l .reserve;
+  ended = l .ended;
+  stopped = l .stopped;
+  entries = l .entries;
+  signal = selected v (l .signal);
+  irq13 = false;
 }
 
 -- Start: active, nothing loaded, no EOL, no Stop, no entry counted; the next place is the table pointer
 abbrev pub started : Chain → Chain
 started l = record {
-  pointer = l .pointer; next = l .pointer; active = true; loaded = false; reserve = None;
-  ended = false; stopped = false; entries = 0; signal = l .signal; irq13 = l .irq13;
+  pointer = l .pointer;
+  next = l .pointer;
+  active = true;
+  loaded = false;
+  reserve = None;
+  ended = false;
+  stopped = false;
+  entries = 0;
+  signal = l .signal;
+  irq13 = l .irq13;
 }
 
 -- Stop while something is loaded: no entry is fetched after it
 abbrev pub stoppedList : Chain → Chain
 stoppedList l = record {
-  pointer = l .pointer; next = l .next; active = l .active; loaded = l .loaded; reserve = l .reserve;
-  ended = l .ended; stopped = true; entries = l .entries; signal = l .signal; irq13 = l .irq13;
+  pointer = l .pointer;
+  next = l .next;
+  active = l .active;
+  loaded = l .loaded;
+  reserve = l .reserve;
+  ended = l .ended;
+  stopped = true;
+  entries = l .entries;
+  signal = l .signal;
+  irq13 = l .irq13;
 }
 
 -- a list that is over
 abbrev pub inactive : Chain → Chain
 inactive l = record {
-  pointer = l .pointer; next = l .next; active = false; loaded = l .loaded; reserve = l .reserve;
-  ended = l .ended; stopped = l .stopped; entries = l .entries; signal = l .signal; irq13 = l .irq13;
+  pointer = l .pointer;
+  next = l .next;
+  active = false;
+  loaded = l .loaded;
+  reserve = l .reserve;
+  ended = l .ended;
+  stopped = l .stopped;
+  entries = l .entries;
+  signal = l .signal;
+  irq13 = l .irq13;
 }
 
 -- Stop: an active list with nothing loaded ends with the mask set; with something loaded it is closed; an inactive one stays
 abbrev pub halted : Channel → Channel
 halted ch = cond (ch .list .active)
-  (cond (ch .list .loaded) (withList (stoppedList (ch .list)) ch) (withMask true (withList (inactive (ch .list)) ch)))
-  ch
+    (cond (ch .list .loaded) (withList (stoppedList (ch .list)) ch) (withMask true (withList (inactive (ch .list)) ch)))
+    ch
 
 -- a list command: bits 1:0 are 0 nothing, 1 Start, 2 Stop
 abbrev pub withListCommand : ℕ → Channel → Channel
 withListCommand v ch = let done = withList (commanded v (ch .list)) ch in
-  cond (eqb (v % 4) 1) (withList (started (done .list)) done) (cond (eqb (v % 4) 2) (halted done) done)
+    cond (eqb (v % 4) 1) (withList (started (done .list)) done) (cond (eqb (v % 4) 2) (halted done) done)
 
 -- a list takes neither autoinitialise, nor cascade, nor shifted words
 abbrev pub isWords : Addressing → Bool

@@ -121,8 +121,8 @@ fieldWritten (Table n) c v k = withChannel c (withTableByte n v (channelOf k c))
 -- a list command begins a job if it is Start, or a Stop that ends the list
 abbrev pub listWritten : ℕ → ℕ → Registers → Registers
 listWritten c v k = cond (listBegins v (channelOf k c))
-  (programmed c (withListCommand v (channelOf k c)) k)
-  (withChannel c (withListCommand v (channelOf k c)) k)
+    (programmed c (withListCommand v (channelOf k c)) k)
+    (withChannel c (withListCommand v (channelOf k c)) k)
 
 -- a service of the group's channels is over
 abbrev pub overIn : Dma → Option ℕ → Option ℕ

@@ -33,19 +33,33 @@ eachSlot f₀ f₁ f₂ f₃ g = withChannels (f₀ (slotOf g 0) ∷ f₁ (slotO
 abbrev pub freshGroup : Addressing → Addressing → Group
 freshGroup head tail = record {
   channels = fresh head ∷ fresh tail ∷ fresh tail ∷ fresh tail ∷ [];
-  disabled = false; rotating = false; «active_low» = false; pointer = record { high = false }; last = 3;
+  disabled = false;
+  rotating = false;
+  «active_low» = false;
+  pointer = record { high = false };
+  last = 3;
 }
 
 -- the command register: bit 2 disables, bit 4 rotates, bit 6 makes lines active low
 abbrev pub withCommand : ℕ → Group → Group
 withCommand v g = record {
-  channels = g .channels; disabled = flag 4 v; rotating = flag 16 v; «active_low» = flag 64 v; pointer = g .pointer; last = g .last;
+  channels = g .channels;
+  disabled = flag 4 v;
+  rotating = flag 16 v;
+  «active_low» = flag 64 v;
+  pointer = g .pointer;
+  last = g .last;
 }
 
 -- the byte pointer set
 abbrev pub withPointer : Bool → Group → Group
 withPointer high g = record {
-  channels = g .channels; disabled = g .disabled; rotating = g .rotating; «active_low» = g .«active_low»; pointer = record { high = high }; last = g .last;
+  channels = g .channels;
+  disabled = g .disabled;
+  rotating = g .rotating;
+  «active_low» = g .«active_low»;
+  pointer = record { high = high };
+  last = g .last;
 }
 
 -- the byte pointer flipped
@@ -68,7 +82,11 @@ withoutTerminals g = eachSlot (withTerminal false) (withTerminal false) (withTer
 abbrev pub clearedGroup : Group → Group
 clearedGroup g = record {
   channels = cleared (slotOf g 0) ∷ cleared (slotOf g 1) ∷ cleared (slotOf g 2) ∷ cleared (slotOf g 3) ∷ [];
-  disabled = false; rotating = false; «active_low» = false; pointer = record { high = false }; last = 3;
+  disabled = false;
+  rotating = false;
+  «active_low» = false;
+  pointer = record { high = false };
+  last = 3;
 }
 
 -- four bits as a number, slot 0's lowest

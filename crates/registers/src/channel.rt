@@ -38,7 +38,11 @@ fn put_byte(high: bool, value: u8, old: u16) -> u16
     ensures { λ r. ⌜ r ≡ putByte high value old ⌝ }
 {
     let [low, top] = old.to_le_bytes();
-    if high { u16::from_le_bytes([low, value]) } else { u16::from_le_bytes([value, top]) }
+    if high {
+        u16::from_le_bytes([low, value])
+    } else {
+        u16::from_le_bytes([value, top])
+    }
 }
 
 // One byte of a 16-bit register.
@@ -54,7 +58,14 @@ impl Span {
     fn rest() -> Span
         ensures { λ r. ⌜ r ≡ restSpan ⌝ }
     {
-        Span { place: Place { address: 0, low: 0, high: 0 }, count: 0 }
+        Span {
+            place: Place {
+                address: 0,
+                low: 0,
+                high: 0,
+            },
+            count: 0,
+        }
     }
 
     // One byte of the address replaced, and the high page zeroed.
@@ -62,28 +73,52 @@ impl Span {
         ensures { λ r. ⌜ r ≡ addressed high value self ⌝ }
     {
         let address = put_byte(high, value, self.place.address);
-        Span { place: Place { address, low: self.place.low, high: 0 }, count: self.count }
+        Span {
+            place: Place {
+                address,
+                low: self.place.low,
+                high: 0,
+            },
+            count: self.count,
+        }
     }
 
     // The low page replaced, and the high page zeroed.
     fn with_low(self, value: u8) -> Span
         ensures { λ r. ⌜ r ≡ lowPaged value self ⌝ }
     {
-        Span { place: Place { address: self.place.address, low: value, high: 0 }, count: self.count }
+        Span {
+            place: Place {
+                address: self.place.address,
+                low: value,
+                high: 0,
+            },
+            count: self.count,
+        }
     }
 
     // The high page replaced.
     fn with_high(self, value: u8) -> Span
         ensures { λ r. ⌜ r ≡ highPaged value self ⌝ }
     {
-        Span { place: Place { address: self.place.address, low: self.place.low, high: value }, count: self.count }
+        Span {
+            place: Place {
+                address: self.place.address,
+                low: self.place.low,
+                high: value,
+            },
+            count: self.count,
+        }
     }
 
     // One byte of the count replaced.
     fn with_count(self, high: bool, value: u8) -> Span
         ensures { λ r. ⌜ r ≡ counted high value self ⌝ }
     {
-        Span { place: self.place, count: put_byte(high, value, self.count) }
+        Span {
+            place: self.place,
+            count: put_byte(high, value, self.count),
+        }
     }
 }
 
@@ -134,22 +169,40 @@ impl Channel {
     pub(crate) fn with_low(self, value: u8) -> Channel
         ensures { λ r. ⌜ r ≡ withLow value self ⌝ }
     {
-        Channel { base: self.base.with_low(value), current: self.current.with_low(value), extended: false, ..self }
+        Channel {
+            base: self.base.with_low(value),
+            current: self.current.with_low(value),
+            extended: false,
+            ..self
+        }
     }
 
     // The high page, for base and current; addressing is extended from here on.
     pub(crate) fn with_high(self, value: u8) -> Channel
         ensures { λ r. ⌜ r ≡ withHigh value self ⌝ }
     {
-        Channel { base: self.base.with_high(value), current: self.current.with_high(value), extended: true, ..self }
+        Channel {
+            base: self.base.with_high(value),
+            current: self.current.with_high(value),
+            extended: true,
+            ..self
+        }
     }
 
     // The byte of the extended mode register: timing, which is stored only, and addressing.
     pub(crate) fn with_extended_mode(self, value: u8) -> Channel
         ensures { λ r. ⌜ r ≡ withExtendedMode value self ⌝ }
     {
-        let addressing = if value / 4 % 4 == 0 { Addressing::Bytes } else { Addressing::Words };
-        Channel { addressing, timing: value / 16 % 4, ..self }
+        let addressing = if value / 4 % 4 == 0 {
+            Addressing::Bytes
+        } else {
+            Addressing::Words
+        };
+        Channel {
+            addressing,
+            timing: value / 16 % 4,
+            ..self
+        }
     }
 
     pub(crate) fn with_line(self, line: bool) -> Channel
@@ -186,7 +239,13 @@ impl Channel {
     pub(crate) fn cleared(self) -> Channel
         ensures { λ r. ⌜ r ≡ cleared self ⌝ }
     {
-        Channel { mask: true, request: false, terminal: false, list: List::rest(self.list.pointer), ..self }
+        Channel {
+            mask: true,
+            request: false,
+            terminal: false,
+            list: List::rest(self.list.pointer),
+            ..self
+        }
     }
 
     // One byte of the table pointer.
@@ -196,7 +255,13 @@ impl Channel {
         let mut bytes = self.list.pointer.to_le_bytes();
         bytes[(byte % 4) as usize] = value;
         let pointer = u32::from_le_bytes(bytes);
-        Channel { list: List { pointer, ..self.list }, ..self }
+        Channel {
+            list: List {
+                pointer,
+                ..self.list
+            },
+            ..self
+        }
     }
 
     // An accepted list command.
@@ -205,7 +270,10 @@ impl Channel {
     {
         let list = self.list.commanded(value);
         match value % 4 {
-            1 => Channel { list: list.started(), ..self },
+            1 => Channel {
+                list: list.started(),
+                ..self
+            },
             2 => Channel { list, ..self }.halted(),
             _ => Channel { list, ..self },
         }
@@ -219,9 +287,22 @@ impl Channel {
             return self;
         }
         if self.list.loaded {
-            Channel { list: List { stopped: true, ..self.list }, ..self }
+            Channel {
+                list: List {
+                    stopped: true,
+                    ..self.list
+                },
+                ..self
+            }
         } else {
-            Channel { list: List { active: false, ..self.list }, mask: true, ..self }
+            Channel {
+                list: List {
+                    active: false,
+                    ..self.list
+                },
+                mask: true,
+                ..self
+            }
         }
     }
 

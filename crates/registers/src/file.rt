@@ -53,7 +53,11 @@ impl Registers {
     pub fn channel(&self, c: u8) -> Channel
         ensures { λ r. ⌜ r ≡ channelOf (now (self .entry)) c ⌝ }
     {
-        if c < 4 { self.first.slot(c) } else { self.second.slot(c) }
+        if c < 4 {
+            self.first.slot(c)
+        } else {
+            self.second.slot(c)
+        }
     }
 
     // Other registers for a channel.
@@ -90,7 +94,11 @@ impl Registers {
     pub(crate) fn high_byte(&self, c: u8) -> bool
         ensures { λ r. ⌜ r ≡ highByte (now (self .entry)) c ⌝ }
     {
-        if c < 4 { self.first.pointer.high } else { self.second.pointer.high }
+        if c < 4 {
+            self.first.pointer.high
+        } else {
+            self.second.pointer.high
+        }
     }
 
     // The byte pointer of a channel's group flipped.

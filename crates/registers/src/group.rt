@@ -128,7 +128,12 @@ impl Group {
     pub(crate) fn clear(&mut self)
         ensures { λ _. ⌜ now (self .exit) ≡ clearedGroup (now (self .entry)) ⌝ }
     {
-        self.channels = [self.slot(0).cleared(), self.slot(1).cleared(), self.slot(2).cleared(), self.slot(3).cleared()];
+        self.channels = [
+            self.slot(0).cleared(),
+            self.slot(1).cleared(),
+            self.slot(2).cleared(),
+            self.slot(3).cleared(),
+        ];
         self.disabled = false;
         self.rotating = false;
         self.active_low = false;
@@ -140,7 +145,12 @@ impl Group {
     pub(crate) fn masks(&self) -> u8
         ensures { λ r. ⌜ r ≡ masks (now (self .entry)) ⌝ }
     {
-        nibble(self.slot(0).mask, self.slot(1).mask, self.slot(2).mask, self.slot(3).mask)
+        nibble(
+            self.slot(0).mask,
+            self.slot(1).mask,
+            self.slot(2).mask,
+            self.slot(3).mask,
+        )
     }
 
     // The IRQ13 bits as a number.
@@ -148,14 +158,23 @@ impl Group {
         ensures value { λ r. ⌜ r ≡ irq13s (now (self .entry)) ⌝ }
         ensures bound { λ r. ⌜ r < 16 ⌝ }
     {
-        nibble(self.slot(0).list.irq13, self.slot(1).list.irq13, self.slot(2).list.irq13, self.slot(3).list.irq13)
+        nibble(
+            self.slot(0).list.irq13,
+            self.slot(1).list.irq13,
+            self.slot(2).list.irq13,
+            self.slot(3).list.irq13,
+        )
     }
 
     // Whether a channel's line is active.
     pub fn active(&self, channel: Channel) -> bool
         ensures { λ r. ⌜ r ≡ active (now (self .entry)) channel ⌝ }
     {
-        if self.active_low { !channel.line } else { channel.line }
+        if self.active_low {
+            !channel.line
+        } else {
+            channel.line
+        }
     }
 
     // Whether a slot's device or its request bit asks for service.
@@ -172,7 +191,12 @@ impl Group {
     {
         let counts = self.terminals(cascades);
         let first = self.requested(0) && !cascades;
-        let requests = nibble(first, self.requested(1), self.requested(2), self.requested(3));
+        let requests = nibble(
+            first,
+            self.requested(1),
+            self.requested(2),
+            self.requested(3),
+        );
         counts + requests * 16
     }
 
@@ -182,7 +206,12 @@ impl Group {
         ensures bound { λ r. ⌜ r < 16 ⌝ }
     {
         let first = self.slot(0).terminal && !cascades;
-        nibble(first, self.slot(1).terminal, self.slot(2).terminal, self.slot(3).terminal)
+        nibble(
+            first,
+            self.slot(1).terminal,
+            self.slot(2).terminal,
+            self.slot(3).terminal,
+        )
     }
 
     // The terminal count bits cleared, as a read of the status register does.

@@ -53,7 +53,11 @@ impl List {
     pub(crate) fn commanded(self, value: u8) -> List
         ensures { λ r. ⌜ r ≡ commanded value self ⌝ }
     {
-        List { signal: self.signal.selected(value), irq13: false, ..self }
+        List {
+            signal: self.signal.selected(value),
+            irq13: false,
+            ..self
+        }
     }
 
     // Start.
@@ -106,6 +110,10 @@ impl Signal {
         if value / 64 % 2 == 0 {
             return self;
         }
-        if value / 128 % 2 == 1 { Signal::Eop } else { Signal::Irq13 }
+        if value / 128 % 2 == 1 {
+            Signal::Eop
+        } else {
+            Signal::Irq13
+        }
     }
 }

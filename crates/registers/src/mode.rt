@@ -32,7 +32,12 @@ impl Mode {
     pub(crate) fn rest() -> Mode
         ensures { λ r. ⌜ r ≡ restMode ⌝ }
     {
-        Mode { service: Service::Demand, decrement: false, autoinitialise: false, transfer: Transfer::Verify }
+        Mode {
+            service: Service::Demand,
+            decrement: false,
+            autoinitialise: false,
+            transfer: Transfer::Verify,
+        }
     }
 
     // The mode that a byte written to the mode register asks for.

@@ -27,12 +27,12 @@ Near (Out c) = Unit {0}
 Near (Taken c) = ⊥
 
 near-settled : (c : ℕ) (p : State × Result Event Fault) → Near (p .0 .bus) → Near (settled c p .0 .bus)
-near-settled c (s , Ok e) h = h
-near-settled c (s , Err f) h = h
+near-settled c (s, Ok e) h = h
+near-settled c (s, Err f) h = h
 
 near-moves : (s : State) (c : ℕ) (p : Outside × Result ℕ Fault) → Near (s .bus) → Near (moves s c p .0 .bus)
-near-moves s c (o , Ok u) h = h
-near-moves s c (o , Err e) h = h
+near-moves s c (o, Ok u) h = h
+near-moves s c (o, Err e) h = h
 
 near-fills : (s : State) (c : ℕ) (r : Result Found Fault) → Near (s .bus) → Near (fills s c r .0 .bus)
 near-fills s c (Ok x) h = h

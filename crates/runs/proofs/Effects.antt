@@ -54,11 +54,11 @@ module _ (c : ℕ) (hc : c < 8) where
   fault-rests s t e f h = rests refl refl (ap partOf (channel-same (t .registers) c _ f hc) ∙ h)
 
   own-moves : (s : State) (p : Outside × Result ℕ Fault) → Four (s .registers) → Ready (channelOf (s .registers) c) → Stepped c (channelOf (s .registers) c) (s .world) (settled c (moves s c p))
-  own-moves s (o , Ok u) f r =
+  own-moves s (o, Ok u) f r =
       let e : eqb c c ≡ true = grind arith in
       goes (record { channel = c; address = passes (channelOf (s .registers) c); unit = u; signal = passed (channelOf (s .registers) c) .signal })
-        (rw e) refl refl refl (channel-same (s .registers) c _ f hc) r
-  own-moves s (o , Err e) f r = fault-rests s _ e f refl
+      (rw e) refl refl refl (channel-same (s .registers) c _ f hc) r
+  own-moves s (o, Err e) f r = fault-rests s _ e f refl
 
   own-fills : (s : State) (r : Result Found Fault) → fetchOf (s .world .kinds) (s .world .bytes) c (channelOf (s .registers) c .list) ≡ r
       → Four (s .registers) → CanFetch (channelOf (s .registers) c) → Stepped c (channelOf (s .registers) c) (s .world) (settled c (fills s c r))
@@ -68,8 +68,8 @@ module _ (c : ℕ) (hc : c < 8) where
   own-fills s (Err e) q f can = fault-rests s s e f refl
 
   other-moves : (s : State) (d : ℕ) (p : Outside × Result ℕ Fault) → Four (s .registers) → d < 8 → eqb c d ≡ false → Stepped c (channelOf (s .registers) c) (s .world) (settled d (moves s d p))
-  other-moves s d (o , Ok u) f hd q = rests (rw q) refl (ap partOf (channel-other (s .registers) c d _ f hc hd q))
-  other-moves s d (o , Err e) f hd q = rests refl refl (ap partOf (channel-other (s .registers) c d _ f hc hd q))
+  other-moves s d (o, Ok u) f hd q = rests (rw q) refl (ap partOf (channel-other (s .registers) c d _ f hc hd q))
+  other-moves s d (o, Err e) f hd q = rests refl refl (ap partOf (channel-other (s .registers) c d _ f hc hd q))
 
   other-fills : (s : State) (d : ℕ) (r : Result Found Fault) → Four (s .registers) → d < 8 → eqb c d ≡ false → Stepped c (channelOf (s .registers) c) (s .world) (settled d (fills s d r))
   other-fills s d (Ok x) f hd q = rests refl (rw q) (ap partOf (channel-other (s .registers) c d _ f hc hd q))
@@ -113,6 +113,7 @@ module _ (c : ℕ) (hc : c < 8) where
     where
       can : (ch : Channel) → (not (ch .mask) && (isOpen (ch .list) && hasPlace (ch .list))) ≡ true → CanFetch ch
       can ch e = let o : isOpen (ch .list) ≡ true = grind arith in let h : hasPlace (ch .list) ≡ true = grind arith in let a : ch .list .active ≡ true = grind arith in (a, inr (o, h))
+
       go : (q : Bool) → eqb c d ≡ q → Stepped c (channelOf (s .registers) c) (s .world) (settled d (fetchStep s d))
       go true q =
           let same : c ≡ d = grind arith in

@@ -55,10 +55,10 @@ module _ (l : Course) (ch : Channel) (r : Running l (partOf ch)) (ld : ch .list 
   went-mid z = record {
     running = record { active = r .active; course = r .course; extended = r .extended; kept = r .kept; open-list = r .open-list };
     taken =
-      let n : suc (lessOne (ch .current .count)) ≡ ch .current .count = (rw z (grind arith)) in
-      let there : currentPlan l (partWith (stepped ch) (partOf ch)) ≡ plan l (movedPlace (courseOf ch) (ch .current .place)) (suc (lessOne (ch .current .count))) = rw ld in
-      let here : currentPlan l (partOf ch) ≡ plan l (ch .current .place) (suc (ch .current .count)) = rw ld in
-      ap (λ x. x ++ reservePlan l (ch .list .reserve)) (here ∙ first-of (ch .current .count)
+        let n : suc (lessOne (ch .current .count)) ≡ ch .current .count = (rw z (grind arith)) in
+        let there : currentPlan l (partWith (stepped ch) (partOf ch)) ≡ plan l (movedPlace (courseOf ch) (ch .current .place)) (suc (lessOne (ch .current .count))) = rw ld in
+        let here : currentPlan l (partOf ch) ≡ plan l (ch .current .place) (suc (ch .current .count)) = rw ld in
+        ap (λ x. x ++ reservePlan l (ch .list .reserve)) (here ∙ first-of (ch .current .count)
         ∙ ap (λ x. planned l (ch .current .place) 0 ∷ x) (sym (there ∙ ap (plan l (movedPlace (courseOf ch) (ch .current .place))) n)));
     fetching = λ o. refl;
     place = refl;
@@ -205,11 +205,11 @@ module _ (l : Course) (ch : Channel) (o : Outside) (c : ℕ) (x : Entry) (r : Ru
       let shut : isClosed p ≡ x .last = ap₂ _||_ ed (st ∙ halted) ∙ or-false (x .last) in
       let here : unfetched (partOf ch) o ≡ entriesFrom (mostEntries - ch .list .entries) o (ch .list .next) = rw q in
       let there : unfetched p o ≡ cond (x .last) [] (entriesFrom (mostEntries - ((ch .list .entries + 1) % 65536)) o (x .next)) =
-        ap (λ b. cond b [] (entriesFrom (mostEntries - p .entries) o (p .next))) shut ∙ ap₂ (λ i a. cond (x .last) [] (entriesFrom (mostEntries - i) o a)) en nx in
+      ap (λ b. cond b [] (entriesFrom (mostEntries - p .entries) o (p .next))) shut ∙ ap₂ (λ i a. cond (x .last) [] (entriesFrom (mostEntries - i) o a)) en nx in
       let step = entries-more (mostEntries - ((ch .list .entries + 1) % 65536)) o (ch .list .next) (f .1) in
       let mine : cond (entryIn (o .bytes) (ch .list .next) .last) (entryIn (o .bytes) (ch .list .next) ∷ []) (entryIn (o .bytes) (ch .list .next) ∷ entriesFrom (mostEntries - ((ch .list .entries + 1) % 65536)) o (afterEntry (ch .list .next)))
-          ≡ cond (x .last) (x ∷ []) (x ∷ entriesFrom (mostEntries - ((ch .list .entries + 1) % 65536)) o (x .next)) =
-        ap (λ (y : Entry). cond (y .last) (y ∷ []) (y ∷ entriesFrom (mostEntries - ((ch .list .entries + 1) % 65536)) o (y .next))) (sym (f .2)) in
+      ≡ cond (x .last) (x ∷ []) (x ∷ entriesFrom (mostEntries - ((ch .list .entries + 1) % 65536)) o (x .next)) =
+      ap (λ (y : Entry). cond (y .last) (y ∷ []) (y ∷ entriesFrom (mostEntries - ((ch .list .entries + 1) % 65536)) o (y .next))) (sym (f .2)) in
       here ∙ ap (λ i. entriesFrom i o (ch .list .next)) n ∙ step ∙ mine ∙ rest-of (x .last) x _ ∙ ap (λ es. x ∷ es) (sym there)
     where
       stopped-not : (a b : Bool) → (a || b) ≡ false → b ≡ false
@@ -220,8 +220,8 @@ module _ (l : Course) (ch : Channel) (o : Outside) (c : ℕ) (x : Entry) (r : Ru
   got-reserve ld re q = record {
     running = record { active = r .active; course = r .course; extended = λ _. r .extended ld; kept = λ h. absurd (never h); open-list = λ h. absurd (never h) };
     loaded =
-      let here : loadedPlan l (partOf ch) ≡ plan l (ch .current .place) (suc (ch .current .count)) = rw (ld, re) (append-nil (plan l (ch .current .place) (suc (ch .current .count)))) in
-      ap (λ y. y ++ bufferPlan l (x .entry)) (sym here);
+        let here : loadedPlan l (partOf ch) ≡ plan l (ch .current .place) (suc (ch .current .count)) = rw (ld, re) (append-nil (plan l (ch .current .place) (suc (ch .current .count)))) in
+        ap (λ y. y ++ bufferPlan l (x .entry)) (sym here);
     fetched = first-unfetched q (partFetched x (partOf ch)) refl refl refl refl;
     place = ap (λ (y : Entry). y .next) (facts .2);
     opened = q;
@@ -239,9 +239,9 @@ module _ (l : Course) (ch : Channel) (o : Outside) (c : ℕ) (x : Entry) (r : Ru
       record {
         running = record { active = r .active; course = r .course; extended = λ _. refl; kept = λ h. absurd (never h); open-list = λ h. absurd (never h) };
         loaded =
-          let here : loadedPlan l (partOf ch) ≡ [] = rw (ld, re) in
-          let there : loadedPlan l (partLoaded x (partOf ch)) ≡ bufferPlan l (x .entry) = rw re (append-nil (bufferPlan l (x .entry))) in
-          there ∙ ap (λ y. y ++ bufferPlan l (x .entry)) (sym here);
+            let here : loadedPlan l (partOf ch) ≡ [] = rw (ld, re) in
+            let there : loadedPlan l (partLoaded x (partOf ch)) ≡ bufferPlan l (x .entry) = rw re (append-nil (bufferPlan l (x .entry))) in
+            there ∙ ap (λ y. y ++ bufferPlan l (x .entry)) (sym here);
         fetched = first-unfetched q (partLoaded x (partOf ch)) refl refl refl refl;
         place = ap (λ (y : Entry). y .next) (facts .2);
         opened = q;
@@ -257,8 +257,8 @@ module _ (l : Course) (ch : Channel) (o : Outside) (c : ℕ) (x : Entry) (r : Ru
 
   got-by : (b : Bool) → ch .list .loaded ≡ b → CanFetch ch → Got l (partOf ch) (partOf (filled x ch)) x o
   got-by false ld can = filled-as _ (part-loaded x ch ld) (got-current ld)
-  got-by true ld (a , inl off) = absurd (never (sym ld ∙ off))
-  got-by true ld (a , inr on) =
+  got-by true ld (a, inl off) = absurd (never (sym ld ∙ off))
+  got-by true ld (a, inr on) =
       let room : isLoaded (ch .list .reserve) ≡ false = (let h : not (ch .list .loaded && isLoaded (ch .list .reserve)) ≡ true = on .1 in let g : not (isLoaded (ch .list .reserve)) ≡ true = rw ld at h in not-true _ g) in
       let q : isClosed (partOf ch) ≡ false = open-not (ch .list .active) (isClosed (partOf ch)) (on .0) in
       filled-as _ (part-fetched x ch ld) (got-reserve ld (no-reserve _ room) q)
@@ -266,6 +266,7 @@ module _ (l : Course) (ch : Channel) (o : Outside) (c : ℕ) (x : Entry) (r : Ru
       not-true : (b : Bool) → not b ≡ true → b ≡ false
       not-true true h = absurd (never (sym h))
       not-true false h = refl
+
       open-not : (a b : Bool) → (a && not b) ≡ true → b ≡ false
       open-not true b h = not-true b h
       open-not false b h = absurd (never (sym h))

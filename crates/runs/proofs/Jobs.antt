@@ -83,12 +83,12 @@ module _ (c : ℕ) (hc : c < 8) where
       let r = cutAfter c (run s ks) in
       let U : List ℕ → Type 0 = λ ys. Untouched ys (run s ks) in
       let table : tableOf (ch .list .pointer) (entriesAt o (ch .list .pointer)) ≡ tableLeft (partOf ch) o =
-        ap₂ (λ es a. places (8 * length es) a) (sym all) (sym (f .placed)) in
+      ap₂ (λ es a. places (8 * length es) a) (sym all) (sym (f .placed)) in
       along-by _ _ _ _ _ _ m
-        (ap₂ _++_ (nothing-loaded l ch f) (ap (λ es. along l (cut r es)) all) ∙ sym (along-is ch (cut r (entriesAt o (ch .list .pointer)))))
-        (closes-by ch o r f)
-        refl
-        (list-row c hc l s ks k m h (started ch o on f) b (subst U table spared) e)
+      (ap₂ _++_ (nothing-loaded l ch f) (ap (λ es. along l (cut r es)) all) ∙ sym (along-is ch (cut r (entriesAt o (ch .list .pointer)))))
+      (closes-by ch o r f)
+      refl
+      (list-row c hc l s ks k m h (started ch o on f) b (subst U table spared) e)
 
   job : (s : State) (ks : List Call) (k : Call) (m : Move) → Sound (s .registers) → (channelOf (s .registers) c .list .active ≡ true → Fresh (channelOf (s .registers) c))
       → NoneBegins c (run s ks) → moveOf c (turnOf (ended s ks) k) ≡ Some m → Job c s (run s ks) m
@@ -116,12 +116,12 @@ pub planned : (o : Outside) (ks : List Call) → Planned (fresh o) (run (fresh o
 planned o ks = record {
   made = λ c row rest t m hc e b mv. by-turns c hc (fresh o) row t rest m (cut-run (fresh o) ks row t rest e) (sound-first o) (off-at-first c hc o) b mv;
   begun = λ c past row rest x t m hc e bx b mv. (
-    let u = cut-run (fresh o) ks past x (row ++ (t ∷ rest)) e in
-    let s = ended (fresh o) (u .calls) in
-    let h = kept (λ (z : State). Sound (z .registers)) sound-kept (fresh o) (u .calls) (sound-first o) in
-    let s′ = performed s (u .call) .0 in
-    let v = cut-run s′ (u .others) row t rest (sym (u .after)) in
-    let B : Turn → Type 0 = λ z. beginsJob c z ≡ true in
-    let J : Turn → Type 0 = λ z. Job c (z .after) row m in
-    subst J (sym (u .here)) (by-turns c hc s′ row t rest m v (sound-kept s (u .call) h) (begun-fresh c hc s (u .call) h (subst B (u .here) bx)) b mv));
+      let u = cut-run (fresh o) ks past x (row ++ (t ∷ rest)) e in
+      let s = ended (fresh o) (u .calls) in
+      let h = kept (λ (z : State). Sound (z .registers)) sound-kept (fresh o) (u .calls) (sound-first o) in
+      let s′ = performed s (u .call) .0 in
+      let v = cut-run s′ (u .others) row t rest (sym (u .after)) in
+      let B : Turn → Type 0 = λ z. beginsJob c z ≡ true in
+      let J : Turn → Type 0 = λ z. Job c (z .after) row m in
+      subst J (sym (u .here)) (by-turns c hc s′ row t rest m v (sound-kept s (u .call) h) (begun-fresh c hc s (u .call) h (subst B (u .here) bx)) b mv));
 }

@@ -161,7 +161,7 @@ module _ (c : ℕ) (hc : c < 8) (l : Course) where
       let ld = p .2 (r .active) in
       let here : loadedPlan l (partOf ch) ≡ plan l (ch .current .place) (suc (ch .current .count)) ++ reservePlan l (ch .list .reserve) = rw ld in
       let first : leftOf l (partOf ch) o None ≡ planned l (ch .current .place) 0 ∷ behind l ch o =
-        ap (λ x. x ++ along l (unfetched (partOf ch) o)) (here ∙ ap (λ x. x ++ reservePlan l (ch .list .reserve)) (plan-next l (ch .current .place) (ch .current .count))) in
+      ap (λ x. x ++ along l (unfetched (partOf ch) o)) (here ∙ ap (λ x. x ++ reservePlan l (ch .list .reserve)) (plan-next l (ch .current .place) (ch .current .count))) in
       along-by (planned l (ch .current .place) 0 ∷ behind l ch o) _ (ending (partOf ch) o) _ 0 _ m (sym first) refl refl (record {
         within = omega arith;
         address = p .0 ∙ ap (λ x. planned x (ch .current .place) 0) (own-course l ch r ld);
@@ -194,10 +194,10 @@ module _ (c : ℕ) (hc : c < 8) (l : Course) where
       let table : tableLeft (partOf (to c t)) w ≡ tableLeft P o = ap (λ q. tableLeft q w) p ∙ ap (λ es. places (8 * length es) (P .next)) eu in
       let cuts = no-stop t (cutAfter c row) (on st) ft in
       along-by _ _ _ _ _ _ m
-        (ap (λ q. leftOf l q w (cutAfter c row)) p ∙ ap (λ es. loadedPlan l P ++ along l (cut (cutAfter c row) es)) eu ∙ ap (leftOf l P o) (sym cuts))
-        (ap (λ q. closing q w (cutAfter c row)) p ∙ closing-same P o w (cutAfter c row) eu ∙ ap (closing P o) (sym cuts))
-        (sym (ap (λ q. cond (isSome q) 1 0 + transfers c row) mv ∙ zero-add (transfers c row)))
-        (rest (subst R (sym p) r) (subst U (sym table) (u .1)))
+      (ap (λ q. leftOf l q w (cutAfter c row)) p ∙ ap (λ es. loadedPlan l P ++ along l (cut (cutAfter c row) es)) eu ∙ ap (leftOf l P o) (sym cuts))
+      (ap (λ q. closing q w (cutAfter c row)) p ∙ closing-same P o w (cutAfter c row) eu ∙ ap (closing P o) (sym cuts))
+      (sym (ap (λ q. cond (isSome q) 1 0 + transfers c row) mv ∙ zero-add (transfers c row)))
+      (rest (subst R (sym p) r) (subst U (sym table) (u .1)))
     where
       on : (stops c (turnOf s k) ≡ false) ⊎ (from c (turnOf s k) .list .active ≡ false) → stops c (turnOf s k) ≡ false
       on (inl e) = e
@@ -216,11 +216,11 @@ module _ (c : ℕ) (hc : c < 8) (l : Course) where
       let cuts : cutAfter c (run s (k ∷ ks)) ≡ Some 0 = ap (λ q. cond q (Some 0) (more (cond (isSome (fetchOf c t)) 1 0) (cutAfter c row))) st in
       let run-on : Running l (withStop P) = record { active = r .active; course = r .course; extended = r .extended; kept = r .kept; open-list = λ h. absurd (never (sym ld ∙ h)) } in
       along-by _ _ _ _ _ _ m
-        (ap (λ q. leftOf l q w (cutAfter c row)) p ∙ ap (λ es. loadedPlan l P ++ along l (cut (cutAfter c row) es)) none
-          ∙ ap (λ es. loadedPlan l P ++ along l es) (cut-none (cutAfter c row) ∙ sym (take-zero (unfetched P o))) ∙ ap (leftOf l P o) (sym cuts))
-        (ap (λ q. closing q w (cutAfter c row)) p ∙ closed-closing (withStop P) w (cutAfter c row) shut ∙ ap (closing P o) (sym cuts))
-        (sym (ap (λ q. cond (isSome q) 1 0 + transfers c row) mv ∙ zero-add (transfers c row)))
-        (rest (subst R (sym p) run-on) (subst U (sym table) (untouched-none row)))
+      (ap (λ q. leftOf l q w (cutAfter c row)) p ∙ ap (λ es. loadedPlan l P ++ along l (cut (cutAfter c row) es)) none
+      ∙ ap (λ es. loadedPlan l P ++ along l es) (cut-none (cutAfter c row) ∙ sym (take-zero (unfetched P o))) ∙ ap (leftOf l P o) (sym cuts))
+      (ap (λ q. closing q w (cutAfter c row)) p ∙ closed-closing (withStop P) w (cutAfter c row) shut ∙ ap (closing P o) (sym cuts))
+      (sym (ap (λ q. cond (isSome q) 1 0 + transfers c row) mv ∙ zero-add (transfers c row)))
+      (rest (subst R (sym p) run-on) (subst U (sym table) (untouched-none row)))
   turn-goes s k ks m r b u (moves j mv ft st ad sg ch rd) rest =
       let t = turnOf s k in
       let P = partOf (from c t) in
@@ -237,12 +237,12 @@ module _ (c : ℕ) (hc : c < 8) (l : Course) where
       let cuts = no-stop t (cutAfter c row) st ft in
       let first = planned l (P .current .place) 0 in
       along-by (first ∷ leftOf l (partOf (to c t)) w (cutAfter c row)) _ _ _ _ _ m
-        (ap (λ q. first ∷ leftOf l q w (cutAfter c row)) p
-          ∙ ap (λ es. (first ∷ loadedPlan l (partOf (passed (from c t) .channel))) ++ along l (cut (cutAfter c row) es)) eu
-          ∙ ap (λ x. x ++ along l (cut (cutAfter c row) (unfetched P o))) (sym (left .taken)) ∙ ap (leftOf l P o) (sym cuts))
-        (ap (λ q. closing q w (cutAfter c row)) p ∙ closing-alike (partOf (passed (from c t) .channel)) P w o (cutAfter c row) (left .closing) eu ∙ ap (closing P o) (sym cuts))
-        (sym (ap (λ q. cond (isSome q) 1 0 + transfers c row) mv))
-        (along-more first _ _ _ m (rest (subst R (sym p) (left .running)) (subst U (sym table) (u .1))))
+      (ap (λ q. first ∷ leftOf l q w (cutAfter c row)) p
+      ∙ ap (λ es. (first ∷ loadedPlan l (partOf (passed (from c t) .channel))) ++ along l (cut (cutAfter c row) es)) eu
+      ∙ ap (λ x. x ++ along l (cut (cutAfter c row) (unfetched P o))) (sym (left .taken)) ∙ ap (leftOf l P o) (sym cuts))
+      (ap (λ q. closing q w (cutAfter c row)) p ∙ closing-alike (partOf (passed (from c t) .channel)) P w o (cutAfter c row) (left .closing) eu ∙ ap (closing P o) (sym cuts))
+      (sym (ap (λ q. cond (isSome q) 1 0 + transfers c row) mv))
+      (along-more first _ _ _ m (rest (subst R (sym p) (left .running)) (subst U (sym table) (u .1))))
   turn-goes s k ks m r b u (fetches-one x mv ft st e ch can w) rest =
       let t = turnOf s k in
       let P = partOf (from c t) in
@@ -255,18 +255,18 @@ module _ (c : ℕ) (hc : c < 8) (l : Course) where
       let U : List ℕ → Type 0 = λ ys. Untouched ys row in
       let V : List Entry → Type 0 = λ es. Untouched (places (8 * length es) (P .next)) row in
       let table : tableLeft (partOf (to c t)) (performed s k .0 .world) ≡ places (8 * length (unfetched Q o)) (afterEntry (P .next)) =
-        ap₂ (λ q z. tableLeft q z) p w ∙ ap (λ a. places (8 * length (unfetched Q o)) a) (new .place) in
+      ap₂ (λ q z. tableLeft q z) p w ∙ ap (λ a. places (8 * length (unfetched Q o)) a) (new .place) in
       let cuts : cutAfter c (run s (k ∷ ks)) ≡ more 1 (cutAfter c row) =
-        ap₂ (λ q f. cond q (Some 0) (more (cond (isSome f) 1 0) (cutAfter c row))) st ft in
+      ap₂ (λ q f. cond q (Some 0) (more (cond (isSome f) 1 0) (cutAfter c row))) st ft in
       along-by _ _ _ _ _ _ m
-        (ap₂ (λ q z. leftOf l q z (cutAfter c row)) p w
-          ∙ ap (λ x. x ++ along l (cut (cutAfter c row) (unfetched Q o))) (new .loaded)
-          ∙ append-assoc (loadedPlan l P) (bufferPlan l (x .entry)) (along l (cut (cutAfter c row) (unfetched Q o)))
-          ∙ ap (λ es. loadedPlan l P ++ along l es) (sym (cut-more (cutAfter c row) x (unfetched Q o)) ∙ ap (cut (more 1 (cutAfter c row))) (sym (new .fetched)))
-          ∙ ap (leftOf l P o) (sym cuts))
-        (ap₂ (λ q z. closing q z (cutAfter c row)) p w ∙ sym (closing-more P Q o x (cutAfter c row) (new .opened) (new .closing) (new .fetched)) ∙ ap (closing P o) (sym cuts))
-        (sym (ap (λ q. cond (isSome q) 1 0 + transfers c row) mv ∙ zero-add (transfers c row)))
-        (rest (subst R (sym p) (new .running)) (subst U (sym table) (after-entry (length (unfetched Q o)) (P .next) row (subst V (new .fetched) (u .1)))))
+      (ap₂ (λ q z. leftOf l q z (cutAfter c row)) p w
+      ∙ ap (λ x. x ++ along l (cut (cutAfter c row) (unfetched Q o))) (new .loaded)
+      ∙ append-assoc (loadedPlan l P) (bufferPlan l (x .entry)) (along l (cut (cutAfter c row) (unfetched Q o)))
+      ∙ ap (λ es. loadedPlan l P ++ along l es) (sym (cut-more (cutAfter c row) x (unfetched Q o)) ∙ ap (cut (more 1 (cutAfter c row))) (sym (new .fetched)))
+      ∙ ap (leftOf l P o) (sym cuts))
+      (ap₂ (λ q z. closing q z (cutAfter c row)) p w ∙ sym (closing-more P Q o x (cutAfter c row) (new .opened) (new .closing) (new .fetched)) ∙ ap (closing P o) (sym cuts))
+      (sym (ap (λ q. cond (isSome q) 1 0 + transfers c row) mv ∙ zero-add (transfers c row)))
+      (rest (subst R (sym p) (new .running)) (subst U (sym table) (after-entry (length (unfetched Q o)) (P .next) row (subst V (new .fetched) (u .1)))))
 
   pub list-row : (s : State) (ks : List Call) (k : Call) (m : Move) → Sound (s .registers) → Running l (partOf (channelOf (s .registers) c)) → NoneBegins c (run s ks)
       → Untouched (tableLeft (partOf (channelOf (s .registers) c)) (s .world)) (run s ks) → moveOf c (turnOf (ended s ks) k) ≡ Some m → Goes s (run s ks) m

@@ -35,8 +35,17 @@ pub record Part : Type 0 where
 
 abbrev pub partOf : Channel → Part
 partOf ch = record {
-  current = ch .current; extended = ch .extended; mode = ch .mode; addressing = ch .addressing; active = ch .list .active; loaded = ch .list .loaded;
-  reserve = ch .list .reserve; ended = ch .list .ended; stopped = ch .list .stopped; entries = ch .list .entries; next = ch .list .next;
+  current = ch .current;
+  extended = ch .extended;
+  mode = ch .mode;
+  addressing = ch .addressing;
+  active = ch .list .active;
+  loaded = ch .list .loaded;
+  reserve = ch .list .reserve;
+  ended = ch .list .ended;
+  stopped = ch .list .stopped;
+  entries = ch .list .entries;
+  next = ch .list .next;
 }
 
 -- a function that leaves that part

@@ -48,6 +48,7 @@ passed-plain ch n f l = go (eqb n 0) refl
   where
     c₀ : eqb (ch .current .count) 0 ≡ eqb n 0
     c₀ = ap (λ x. eqb x 0) (l .count)
+
     go : (q : Bool) → eqb n 0 ≡ q → isSome (passed ch .signal) ≡ q
     go true q = rw (c₀ ∙ q, l .inactive)
     go false q = rw (c₀ ∙ q)
@@ -73,10 +74,11 @@ Remains s c n f done = (done ≤ n) × Left (channelOf (s .registers) c) (n - do
 one-less : (s : State) (c n : ℕ) (f : ℕ → ℕ) (done : ℕ) → eqb n 0 ≡ false → Remains s c (n - 1) (λ j. f (1 + j)) done → Remains s c n f (1 + done)
 one-less s c n f done q r =
     let a = r .0 in
-    let pos : 0 < n = grind arith in
-    (omega arith,
-     record { inactive = r .1 .inactive; count = r .1 .count ∙ omega arith; address = λ j. r .1 .address j ∙ ap f (omega arith) },
-     r .2)
+    let pos : 0 < n = grind arith in (
+      omega arith,
+      record { inactive = r .1 .inactive; count = r .1 .count ∙ omega arith; address = λ j. r .1 .address j ∙ ap f (omega arith) },
+      r .2,
+    )
 
 module _ (c : ℕ) (hc : c < 8) where
   row-more : (s : State) (k : Call) (ks : List Call) (n : ℕ) (f : ℕ → ℕ) → beginsJob c (turnOf s k) ≡ false → Left (channelOf (s .registers) c) n f

@@ -68,7 +68,7 @@ page-below p =
 table-below : (p : ℕ) → Below (tablePort p)
 table-below p = go (ltb p 0x420) (ltb p 0x440) (eqb ((p - 0x420) / 4) 4) refl
   where
-    go : (a b e : Bool) → ltb p 0x440 ≡ b → Below (cond a None (cond b (cond e None (Some (Table ((p - 0x420) % 4) , (p - 0x420) / 4))) None))
+    go : (a b e : Bool) → ltb p 0x440 ≡ b → Below (cond a None (cond b (cond e None (Some (Table ((p - 0x420) % 4), (p - 0x420) / 4))) None))
     go true b e q = tt
     go false true true q = tt
     go false true false q = grind arith

@@ -166,16 +166,16 @@ lined-sound b k s = go (flag 16 b)
 
 -- steps
 settled-sound : (c : ℕ) (p : State × Result Event Fault) → Sound (p .0 .registers) → Sound (settled c p .0 .registers)
-settled-sound c (s , Ok e) h = h
-settled-sound c (s , Err f) h = (four-with (s .registers) c _ (h .0), tt)
+settled-sound c (s, Ok e) h = h
+settled-sound c (s, Err f) h = (four-with (s .registers) c _ (h .0), tt)
 
 served-serviced : (c : ℕ) (q : Bool) → c < 8 → Serviced (served c q)
 served-serviced c true h = tt
 served-serviced c false h = h
 
 moves-sound : (s : State) (c : ℕ) (p : Outside × Result ℕ Fault) → c < 8 → Sound (s .registers) → Sound (moves s c p .0 .registers)
-moves-sound s c (o , Ok u) hc h = (four-with (s .registers) c _ (h .0), served-serviced c (passed (channelOf (s .registers) c) .over) hc)
-moves-sound s c (o , Err e) hc h = h
+moves-sound s c (o, Ok u) hc h = (four-with (s .registers) c _ (h .0), served-serviced c (passed (channelOf (s .registers) c) .over) hc)
+moves-sound s c (o, Err e) hc h = h
 
 fills-sound : (s : State) (c : ℕ) (r : Result Found Fault) → Sound (s .registers) → Sound (fills s c r .0 .registers)
 fills-sound s c (Ok x) h = with-sound c _ (s .registers) h

@@ -134,15 +134,19 @@ same-from n o p a ks r agree rest =
   where
     there : Readable (p .kinds) a
     there = (let P : (ℕ → Kind) → Type 0 = λ k. Readable k a in subst P (sym ks) r)
+
     here : Agree (o .bytes) (p .bytes) (places (8 * length (cond (entryIn (o .bytes) a .last) (entryIn (o .bytes) a ∷ []) (entryIn (o .bytes) a ∷ entriesFrom n o (afterEntry a)))) a)
     here = (let P : List Entry → Type 0 = λ es. Agree (o .bytes) (p .bytes) (places (8 * length es) a) in subst P (entries-more n o a r) agree)
+
     eight : Agree (o .bytes) (p .bytes) (places (suc (suc (suc (suc (suc (suc (suc (suc (8 * cond (entryIn (o .bytes) a .last) 0 (length (entriesFrom n o (afterEntry a)))))))))))) a)
     eight = (let P : ℕ → Type 0 = λ m. Agree (o .bytes) (p .bytes) (places m a) in subst P (more-places (entryIn (o .bytes) a .last) (entryIn (o .bytes) a) (entriesFrom n o (afterEntry a))) here)
+
     same : entryIn (p .bytes) a ≡ entryIn (o .bytes) a
     same = entry-same (o .bytes) (p .bytes) a _ eight
+
     on : entryIn (o .bytes) a .last ≡ false → entriesFrom n p (afterEntry a) ≡ entriesFrom n o (afterEntry a)
     on q = rest (let P : Bool → Type 0 = λ b. Agree (o .bytes) (p .bytes) (places (8 * cond b 0 (length (entriesFrom n o (afterEntry a)))) (afterEntry a)) in
-      subst P q (eight .1 .1 .1 .1 .1 .1 .1 .1))
+        subst P q (eight .1 .1 .1 .1 .1 .1 .1 .1))
 
 by-reading : (n : ℕ) (o p : Outside) (a : ℕ) → p .kinds ≡ o .kinds → Agree (o .bytes) (p .bytes) (places (8 * length (entriesFrom (suc n) o a)) a)
     → Readable (o .kinds) a ⊎ ((f : ℕ → ℕ) (c : ℕ) → (e : Fault) × (entryAt (o .kinds) f c a ≡ Err e))

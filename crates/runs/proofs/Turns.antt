@@ -110,7 +110,7 @@ module _ (c : ℕ) (hc : c < 8) where
   effect s call.Release h e = still refl refl (inl refl) (go (holds (s .bus) (outTo (s .bus))))
     where
       go : (q : Bool)
-        → partOf (channelOf ((cond q (withBus Home (withRegisters (withService (over (outTo (s .bus)) (s .registers .service)) (s .registers)) s)) s) .registers) c) ≡ partOf (channelOf (s .registers) c)
+          → partOf (channelOf ((cond q (withBus Home (withRegisters (withService (over (outTo (s .bus)) (s .registers .service)) (s .registers)) s)) s) .registers) c) ≡ partOf (channelOf (s .registers) c)
       go true = refl
       go false = refl
 

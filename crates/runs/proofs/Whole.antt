@@ -25,12 +25,13 @@ pub one-more : (first s t : State) (calls : List Call) (answers old : List Answe
 one-more first s t calls answers old i d r inC inA here said rest does =
     let k = getD calls i d in
     let done = take i calls in
-    let more = take-more calls i d inC in
-    ( does .state ∙ ap (λ x. performed x k .0) here ∙ sym (ended-push first done k) ∙ ap (ended first) (sym more)
-    , take-more-set answers i r inA ∙ ap (λ l. l ++ (r ∷ [])) said
-      ∙ ap (λ x. answersOf (run first done) ++ (x ∷ [])) (does .answer ∙ ap (λ x. performed x k .1) here)
-      ∙ sym (answers-push first done k) ∙ ap (λ l. answersOf (run first l)) (sym more)
-    , drop-set-lt (i + 1) answers i r (omega arith) ∙ sym (drop-drop 1 i answers) ∙ ap (drop 1) rest ∙ drop-drop 1 i old )
+    let more = take-more calls i d inC in (
+      does .state ∙ ap (λ x. performed x k .0) here ∙ sym (ended-push first done k) ∙ ap (ended first) (sym more),
+      take-more-set answers i r inA ∙ ap (λ l. l ++ (r ∷ [])) said
+          ∙ ap (λ x. answersOf (run first done) ++ (x ∷ [])) (does .answer ∙ ap (λ x. performed x k .1) here)
+          ∙ sym (answers-push first done k) ∙ ap (λ l. answersOf (run first l)) (sym more),
+      drop-set-lt (i + 1) answers i r (omega arith) ∙ sym (drop-drop 1 i answers) ∙ ap (drop 1) rest ∙ drop-drop 1 i old,
+    )
 
 pub lawful : (o : Outside) (calls : List Call) (t : State) → t ≡ ended (fresh o) calls → Law (fresh o) (run (fresh o) calls) t
 lawful o calls t e =

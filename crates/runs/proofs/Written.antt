@@ -33,8 +33,17 @@ use Rattle.runs.proofs.Ports.{Reaches, ReachesIf, picked-below}
 -- a part after Stop
 abbrev pub withStop : Part → Part
 withStop p = record {
-  current = p .current; extended = p .extended; mode = p .mode; addressing = p .addressing; active = p .active; loaded = p .loaded;
-  reserve = p .reserve; ended = p .ended; stopped = true; entries = p .entries; next = p .next;
+  current = p .current;
+  extended = p .extended;
+  mode = p .mode;
+  addressing = p .addressing;
+  active = p .active;
+  loaded = p .loaded;
+  reserve = p .reserve;
+  ended = p .ended;
+  stopped = true;
+  entries = p .entries;
+  next = p .next;
 }
 
 -- what an access does to channel c's part, where `stop` says whether it was an accepted Stop of c
@@ -176,4 +185,4 @@ lined-leaves k c b = go (flag 16 b)
     go : (q : Bool) → partOf (channelOf (cond q k (atSecond (withLines (b / 16)) (atFirst (withLines (b % 16)) k))) c) ≡ partOf (channelOf k c)
     go true = refl
     go false = second-leaves (withLines (b / 16)) (atFirst (withLines (b % 16)) k) c (lines-leave (b / 16) (k .second))
-      ∙ first-leaves (withLines (b % 16)) k c (lines-leave (b % 16) (k .first))
+        ∙ first-leaves (withLines (b % 16)) k c (lines-leave (b % 16) (k .first))

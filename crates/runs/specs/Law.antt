@@ -115,13 +115,13 @@ pub record Along (addresses : List ℕ) (closed : Bool) (k : ℕ) (m : Move) : T
 -- a job of channel c that begins with the registers of s, then a row that begins no other, then a transfer
 abbrev pub PlainJob : ℕ → State → List Turn → Move → Type 0
 PlainJob c s row m = let ch = channelOf (s .registers) c in
-  ch .list .active ≡ false → Along (plan (courseOf ch) (ch .current .place) (suc (ch .current .count))) true (transfers c row) m
+    ch .list .active ≡ false → Along (plan (courseOf ch) (ch .current .place) (suc (ch .current .count))) true (transfers c row) m
 
 -- a list's plan is its table at Start; it holds until a write to memory touches the table
 abbrev pub ListJob : ℕ → State → List Turn → Move → Type 0
 ListJob c s row m = let ch = channelOf (s .registers) c in let es = entriesAt (s .world) (ch .list .pointer) in
-  ch .list .active ≡ true → Untouched (tableOf (ch .list .pointer) es) row
-  → Along (addressesOf ch (cut (cutAfter c row) es)) (closedBy (cutAfter c row) es) (transfers c row) m
+    ch .list .active ≡ true → Untouched (tableOf (ch .list .pointer) es) row
+    → Along (addressesOf ch (cut (cutAfter c row) es)) (closedBy (cutAfter c row) es) (transfers c row) m
 
 -- every job: it begins at making, or with the turn before the row
 abbrev pub Job : ℕ → State → List Turn → Move → Type 0

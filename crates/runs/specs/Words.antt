@@ -138,8 +138,8 @@ goesOut c t = unitsOut (t .before) (moveOf c t)
 
 -- the bytes of a unit in memory: a byte at its address, or a word's low byte there and its high byte above
 abbrev pub bytesAt : Addressing → ℕ → ℕ → List (ℕ × ℕ)
-bytesAt Bytes a u = (a , u) ∷ []
-bytesAt Words a u = (a , u % 256) ∷ (above a , u / 256) ∷ []
+bytesAt Bytes a u = (a, u) ∷ []
+bytesAt Words a u = (a, u % 256) ∷ (above a, u / 256) ∷ []
 
 abbrev pub storedWhen : Transfer → Addressing → ℕ → ℕ → List (ℕ × ℕ)
 storedWhen Verify w a u = []
@@ -152,7 +152,7 @@ storedByMove s (Some m) = storedWhen (wayOf s m) (widthOf s m) (m .address) (m .
 
 abbrev pub storedByCycle : Cycle → ℕ → List (ℕ × ℕ)
 storedByCycle (cycle.Read a) n = []
-storedByCycle (cycle.Write a b) n = cond (eqb n 0) ((a , b) ∷ []) []
+storedByCycle (cycle.Write a b) n = cond (eqb n 0) ((a, b) ∷ []) []
 
 -- an accepted write cycle of a grant stores its byte
 abbrev pub cycleNumberIn : Answer → ℕ
@@ -282,7 +282,7 @@ endsByEol (e ∷ es) = e .last || endsByEol es
 -- the addresses of an entry: its count and one more, extended from its address, up or down
 abbrev pub entryAddresses : Channel → Entry → List ℕ
 entryAddresses ch e = plan (record { addressing = ch .addressing; extended = true; decrement = ch .mode .decrement })
-  (entrySpan (e .entry) .place) (suc (e .entry .count))
+    (entrySpan (e .entry) .place) (suc (e .entry .count))
 
 -- the places of so many bytes, from a on
 abbrev pub places : ℕ → ℕ → List ℕ

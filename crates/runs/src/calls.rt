@@ -19,12 +19,33 @@ pub enum Call {
 // What a call answered: the number of its refusal, 0 where it was accepted, and its values, 0 where they do not apply.
 #[derive(Clone, Copy)]
 pub enum Answer {
-    Write { refusal: u8 },
-    Read { refusal: u8, value: u8 },
-    Lines { refusal: u8 },
-    Step { outcome: Result<Event, Fault> },
-    Inspect { refusal: u8, address: u16, count: u16 },
-    Take { refusal: u8, channel: u8 },
-    Cycle { refusal: u8, byte: u8 },
-    Release { refusal: u8 },
+    Write {
+        refusal: u8,
+    },
+    Read {
+        refusal: u8,
+        value: u8,
+    },
+    Lines {
+        refusal: u8,
+    },
+    Step {
+        outcome: Result<Event, Fault>,
+    },
+    Inspect {
+        refusal: u8,
+        address: u16,
+        count: u16,
+    },
+    Take {
+        refusal: u8,
+        channel: u8,
+    },
+    Cycle {
+        refusal: u8,
+        byte: u8,
+    },
+    Release {
+        refusal: u8,
+    },
 }

@@ -20,7 +20,12 @@ pub struct Played {
 }
 
 // Makes a controller and performs the calls one after another, as many as there is room for answers.
-pub fn play<M: Memory, B: PortBank>(memory: &mut M, bank: &mut B, calls: &[Call], answers: &mut [Answer]) -> Played
+pub fn play<M: Memory, B: PortBank>(
+    memory: &mut M,
+    bank: &mut B,
+    calls: &[Call],
+    answers: &mut [Answer],
+) -> Played
     ensures count { λ r. ⌜ r .count ≡ min (length (now (calls .entry))) (length (now (answers .entry))) ⌝ }
     ensures answered { λ r. ⌜ take (r .count) (now (answers .exit)) ≡ answersOf (run (fresh (outside (kindAt (now (memory .entry))) (byteAt (now (memory .entry))) (waiting (now (bank .entry))) (kept (now (bank .entry))) (free (now (bank .entry))))) (take (r .count) (now (calls .entry)))) ⌝ }
     ensures rest { λ r. ⌜ drop (r .count) (now (answers .exit)) ≡ drop (r .count) (now (answers .entry)) ⌝ }
@@ -29,7 +34,10 @@ pub fn play<M: Memory, B: PortBank>(memory: &mut M, bank: &mut B, calls: &[Call]
     ensures holding { λ r. ⌜ Holding (r .session .grant) (r .session .controller .bus) ⌝ }
     ensures lenders { λ _. ⌜ fixed (now (memory .exit)) ≡ fixed (now (memory .entry)) ⌝ }
 {
-    let mut session = Session { controller: Controller::new(), grant: None };
+    let mut session = Session {
+        controller: Controller::new(),
+        grant: None,
+    };
     let count = calls.len().min(answers.len());
     for i in 0..count {
         answers[i] = session.perform(memory, bank, calls[i]);

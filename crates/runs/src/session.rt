@@ -31,7 +31,9 @@ fn write_answer(answer: Result<(), Refusal>) -> Answer
 {
     match answer {
         Ok(()) => Answer::Write { refusal: 0 },
-        Err(refusal) => Answer::Write { refusal: refusal.number() },
+        Err(refusal) => Answer::Write {
+            refusal: refusal.number(),
+        },
     }
 }
 
@@ -40,7 +42,10 @@ fn read_answer(answer: Result<u8, Refusal>) -> Answer
 {
     match answer {
         Ok(value) => Answer::Read { refusal: 0, value },
-        Err(refusal) => Answer::Read { refusal: refusal.number(), value: 0 },
+        Err(refusal) => Answer::Read {
+            refusal: refusal.number(),
+            value: 0,
+        },
     }
 }
 
@@ -49,7 +54,9 @@ fn lines_answer(answer: Result<(), Refusal>) -> Answer
 {
     match answer {
         Ok(()) => Answer::Lines { refusal: 0 },
-        Err(refusal) => Answer::Lines { refusal: refusal.number() },
+        Err(refusal) => Answer::Lines {
+            refusal: refusal.number(),
+        },
     }
 }
 
@@ -57,8 +64,16 @@ fn inspect_answer(answer: Result<Inspection, Refusal>) -> Answer
     ensures { λ r. ⌜ r ≡ told.Inspect (shown answer) (seenIn answer .address) (seenIn answer .count) ⌝ }
 {
     match answer {
-        Ok(Inspection { address, count }) => Answer::Inspect { refusal: 0, address, count },
-        Err(refusal) => Answer::Inspect { refusal: refusal.number(), address: 0, count: 0 },
+        Ok(Inspection { address, count }) => Answer::Inspect {
+            refusal: 0,
+            address,
+            count,
+        },
+        Err(refusal) => Answer::Inspect {
+            refusal: refusal.number(),
+            address: 0,
+            count: 0,
+        },
     }
 }
 
@@ -68,7 +83,10 @@ fn cycle_answer(answer: Result<u8, BusRefusal>) -> Answer
 {
     match answer {
         Ok(byte) => Answer::Cycle { refusal: 0, byte },
-        Err(refusal) => Answer::Cycle { refusal: refusal.number(), byte: 0 },
+        Err(refusal) => Answer::Cycle {
+            refusal: refusal.number(),
+            byte: 0,
+        },
     }
 }
 
@@ -80,14 +98,20 @@ impl Session {
         ensures holding { λ _. ⌜ Holding (now (self .exit) .grant) (now (self .exit) .controller .bus) ⌝ }
     {
         match self.controller.take() {
-            Err(refusal) => Answer::Take { refusal: refusal.number(), channel: 0 },
+            Err(refusal) => Answer::Take {
+                refusal: refusal.number(),
+                channel: 0,
+            },
             Ok(grant) => {
                 let channel = grant.channel();
                 match self.grant.replace(grant) {
                     None => {}
                     Some(_) => unreachable(),
                 }
-                Answer::Take { refusal: 0, channel }
+                Answer::Take {
+                    refusal: 0,
+                    channel,
+                }
             }
         }
     }
@@ -111,7 +135,9 @@ impl Session {
         ensures holding { λ _. ⌜ Holding (now (self .exit) .grant) (now (self .exit) .controller .bus) ⌝ }
     {
         match self.grant.take() {
-            None => Answer::Release { refusal: BusRefusal::NotGranted.number() },
+            None => Answer::Release {
+                refusal: BusRefusal::NotGranted.number(),
+            },
             Some(grant) => match self.controller.release(grant) {
                 Ok(()) => Answer::Release { refusal: 0 },
                 Err(_) => unreachable(),
@@ -137,14 +163,21 @@ impl Session {
     }
 
     // One call, through the public method that it names.
-    pub(crate) fn perform<M: Memory, B: PortBank>(&mut self, memory: &mut M, bank: &mut B, call: Call) -> Answer
+    pub(crate) fn perform<M: Memory, B: PortBank>(
+        &mut self,
+        memory: &mut M,
+        bank: &mut B,
+        call: Call,
+    ) -> Answer
         requires { ⌜ Holding (now self .grant) (now self .controller .bus) ⌝ }
         ensures does { λ r. ⌜ Does (performed (stateOf (now (self .entry) .controller) (outside (kindAt (now (memory .entry))) (byteAt (now (memory .entry))) (waiting (now (bank .entry))) (kept (now (bank .entry))) (free (now (bank .entry))))) call) (stateOf (now (self .exit) .controller) (outside (kindAt (now (memory .exit))) (byteAt (now (memory .exit))) (waiting (now (bank .exit))) (kept (now (bank .exit))) (free (now (bank .exit))))) r ⌝ }
         ensures holding { λ _. ⌜ Holding (now (self .exit) .grant) (now (self .exit) .controller .bus) ⌝ }
         ensures lenders { λ _. ⌜ fixed (now (memory .exit)) ≡ fixed (now (memory .entry)) ⌝ }
     {
         match call {
-            Call::Step => Answer::Step { outcome: self.controller.step(memory, bank) },
+            Call::Step => Answer::Step {
+                outcome: self.controller.step(memory, bank),
+            },
             Call::Cycle { cycle } => self.cycle(memory, cycle),
             _ => self.perform_inside(call),
         }

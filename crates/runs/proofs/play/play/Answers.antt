@@ -22,7 +22,7 @@ loop-i-again g c =
     let t : State = stateOf (c .perform .last .self .controller) (outside (m .kindAt (c .perform .last .memory)) (m .byteAt (c .perform .last .memory)) (b .waiting (c .perform .last .bank)) (b .kept (c .perform .last .bank)) (b .free (c .perform .last .bank))) in
     let inv = c .loop-i .inv in
     let more = one-more first s t (c .args .calls .now) (c .loop-i .answers) (c .args .answers .now) (c .loop-i .i) _ (c .perform .result) (omega arith) (omega arith)
-      (inv .0) (inv .1) (inv .2) (c .perform .ensures .does) in
+    (inv .0) (inv .1) (inv .2) (c .perform .ensures .does) in
     (more .0, more .1, more .2, c .perform .ensures .holding, c .perform .ensures .lenders ∙ inv .4)
 
 pub returns : need.returns

@@ -12,7 +12,7 @@ returns-in-Write c =
     let here = bus-of (c .write .last .self) (λ o. withRegisters (written (c .in-Write .port) (c .in-Write .value) (was .registers)) (stateOf was o)) (c .write .ensures .state) in
     record {
       does = λ o. by-call (stateOf was o) _ _ _ _ (c .in-Write .is)
-        (record { state = c .write .ensures .state o; answer = c .write-answer .ensures ∙ ap told.Write (c .write .ensures .answer) });
+          (record { state = c .write .ensures .state o; answer = c .write-answer .ensures ∙ ap told.Write (c .write .ensures .answer) });
       holding = still-held (c .args .self .now .grant) (was .bus) _ here (c .pre .1);
     }
 
@@ -22,7 +22,7 @@ returns-in-Read c =
     let here = bus-of (c .read .last .self) (λ o. withRegisters (readLeaves (c .in-Read .port) (was .registers)) (stateOf was o)) (c .read .ensures .state) in
     record {
       does = λ o. by-call (stateOf was o) _ _ _ _ (c .in-Read .is)
-        (record { state = c .read .ensures .state o; answer = c .read-answer .ensures ∙ ap₂ told.Read (c .read .ensures .answer) (c .read .ensures .value) });
+          (record { state = c .read .ensures .state o; answer = c .read-answer .ensures ∙ ap₂ told.Read (c .read .ensures .answer) (c .read .ensures .value) });
       holding = still-held (c .args .self .now .grant) (was .bus) _ here (c .pre .1);
     }
 
@@ -32,7 +32,7 @@ returns-in-Lines c =
     let here = bus-of (c .lines .last .self) (λ o. withRegisters (lined (c .in-Lines .bits) (was .registers)) (stateOf was o)) (c .lines .ensures .state) in
     record {
       does = λ o. by-call (stateOf was o) _ _ _ _ (c .in-Lines .is)
-        (record { state = c .lines .ensures .state o; answer = c .lines-answer .ensures ∙ ap told.Lines (c .lines .ensures .answer) });
+          (record { state = c .lines .ensures .state o; answer = c .lines-answer .ensures ∙ ap told.Lines (c .lines .ensures .answer) });
       holding = still-held (c .args .self .now .grant) (was .bus) _ here (c .pre .1);
     }
 
@@ -42,10 +42,10 @@ returns-in-Inspect c =
     let here = bus-of (c .inspect .last .self) (λ o. stateOf was o) (c .inspect .ensures .state) in
     record {
       does = λ o. by-call (stateOf was o) _ _ _ _ (c .in-Inspect .is)
-        (record {
-          state = c .inspect .ensures .state o;
-          answer = c .inspect-answer .ensures ∙ ap₂ (λ n (x : Inspection). told.Inspect n (x .address) (x .count)) (c .inspect .ensures .answer) (c .inspect .ensures .value);
-        });
+          (record {
+            state = c .inspect .ensures .state o;
+            answer = c .inspect-answer .ensures ∙ ap₂ (λ n (x : Inspection). told.Inspect n (x .address) (x .count)) (c .inspect .ensures .answer) (c .inspect .ensures .value);
+          });
       holding = still-held (c .args .self .now .grant) (was .bus) _ here (c .pre .1);
     }
 

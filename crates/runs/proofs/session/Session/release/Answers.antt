@@ -32,7 +32,7 @@ returns-in-Ok c =
     let mine = held grant _ _ (c .in-Some .ensures tt .value) (c .pre) in
     let to = held-channel grant (was .bus) mine in
     let here = bus-of (c .release .last .self) (λ o. released (grant .channel) (stateOf was o)) (c .release .ensures .state)
-      ∙ home-again (stateOf was nowhere) (grant .channel) (held-holds grant (was .bus) mine) in
+    ∙ home-again (stateOf was nowhere) (grant .channel) (held-holds grant (was .bus) mine) in
     record {
       does = λ o. record {
         state = c .release .ensures .state o ∙ ap (λ g. released g (stateOf was o)) to;
