@@ -15,7 +15,7 @@ unfoldable pub firstFrom : ℕ → (ℕ → Bool) → ℕ → Option ℕ
 firstFrom zero ask k = None
 firstFrom (suc n) ask k = cond (ask (k % 4)) (Some (k % 4)) (firstFrom n ask (k + 1))
 
--- the search starts at slot 0, or rotating after the slot last chosen
+-- slot 0 is looked at first, or rotating after the slot last chosen
 abbrev pub startOf : Bool → ℕ → ℕ
 startOf rotating last = cond rotating ((last + 1) % 4) 0
 

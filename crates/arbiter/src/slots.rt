@@ -22,7 +22,7 @@ fn first_from(asking: u8, start: u8) -> u8
     (turned.trailing_zeros() as u8 + start) % 4
 }
 
-// Where the search starts: at slot 0, or rotating after the slot last chosen.
+// Which slot is looked at first: at slot 0, or rotating after the slot last chosen.
 fn start_of(rotating: bool, last: u8) -> u8
     ensures value { λ r. ⌜ r ≡ startOf rotating last ⌝ }
     ensures below { λ r. ⌜ r < 4 ⌝ }

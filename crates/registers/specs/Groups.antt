@@ -29,7 +29,7 @@ withSlot n ch g = withChannels (set (g .channels) (n % 4) ch) g
 abbrev pub eachSlot : (Channel → Channel) → (Channel → Channel) → (Channel → Channel) → (Channel → Channel) → Group → Group
 eachSlot f₀ f₁ f₂ f₃ g = withChannels (f₀ (slotOf g 0) ∷ f₁ (slotOf g 1) ∷ f₂ (slotOf g 2) ∷ f₃ (slotOf g 3) ∷ []) g
 
--- a new group: enabled, fixed priority, active high, low byte next; the search for a slot starts at the first
+-- a new group: enabled, fixed priority, active high, low byte next; the first slot is looked at first
 abbrev pub freshGroup : Addressing → Addressing → Group
 freshGroup head tail = record {
   channels = fresh head ∷ fresh tail ∷ fresh tail ∷ fresh tail ∷ [];
