@@ -1,18 +1,15 @@
 -- THE LAW: what holds of every run, over any memory and any port bank, for every list of calls.
-use Prim.Native.Nat.{ℕ, zero, suc, _+_, _/_, _%_, _<_, _≤_}
+use Prim.Native.Nat.{ℕ, suc, _+_, _<_, _≤_}
 use mathlib.Core.Path.{_≡_}
-use mathlib.Core.Bool.{Bool, true, false, cond, _&&_, _||_, not}
+use mathlib.Core.Bool.{Bool, true, false, cond, _&&_}
 use mathlib.Core.List.{List, [], _∷_, _++_}
-use lib.Dec.{eqb, ltb}
+use lib.Dec.{eqb}
 use lib.ListN.{length, getD, take, drop}
 use Rattle.std.specs.declared.option.Option.{Option}
 use Rattle.std.specs.declared.option.Option.the-variants.{Some, None}
 use Rattle.std.specs.Options.{isSome}
-use Rattle.bus.specs.declared.place.Addressing.{Addressing}
-use Rattle.bus.specs.declared.place.Addressing.the-variants.{Bytes, Words}
 use Rattle.bus.specs.Plan.{plan}
 use Rattle.registers.specs.declared.channel.Channel.{Channel}
-use Rattle.registers.specs.declared.mode.Transfer.the-variants.{Verify, Write, Read}
 use Rattle.registers.specs.File.{channelOf}
 use Rattle.controller.specs.declared.fetching.Fetched.{Fetched as Entry}
 use Rattle.controller.specs.Outside.{Outside}
