@@ -8,7 +8,6 @@ use native.Mathlib.Omega.{arith}
 use Rattle.std.proofs.shelf.Tests.{cond-true, cond-false}
 use Rattle.memory.specs.declared.kinds.Kind.{Kind}
 use Rattle.memory.specs.Blocks.{fitsAt, kindOfAll, kindFrom, byteFrom, listFrom}
-use Rattle.memory.proofs.Lent.{bytes-back}
 use Rattle.ports.specs.Ramps.{counting}
 use Rattle.controller.specs.Outside.{Outside, outside}
 use Rattle.runner.specs.Plays.{opened}
@@ -26,7 +25,7 @@ module _ (script bytes block : List ℕ) where
         record { refusal = n ∙ ap (λ p. p .refusal) (sym refused); sized = ap (λ p. length (p .answers)) (sym refused); within = omega arith; output = ap (λ p. p .answers ++ block) (sym refused) }
 
     pub host-keeps : bytes ≡ hostBytes script bytes (length block)
-    host-keeps = bytes-back 0 (length bytes) bytes _ (ap (λ p. p .run .state .world .bytes) (sym refused)) refl
+    host-keeps = sym (cond-false _ _ _ long)
 
   -- the bytes make a block
   module _ (fits : fitsAt 0 (length bytes) ≡ true) (kinds : ℕ → Kind) (shown : ℕ → ℕ) (waiting : ℕ → List ℕ)
@@ -42,4 +41,4 @@ module _ (script bytes block : List ℕ) where
 
     pub host-shows : {after : List ℕ} (o : Outside) → o ≡ runOf script (length block) (opened 64 (outside kinds shown waiting (λ c. []) (λ c. 0))) .run .state .world
         → after ≡ listFrom (o .bytes) 0 (length bytes) → after ≡ hostBytes script bytes (length block)
-    host-shows o world back = back ∙ ap (λ w. listFrom (w .bytes) 0 (length bytes)) (world ∙ ap (λ p. p .run .state .world) runs)
+    host-shows o world back = back ∙ ap (λ w. listFrom (w .bytes) 0 (length bytes)) (world ∙ ap (λ p. p .run .state .world) runs) ∙ sym (cond-true _ _ _ fits)

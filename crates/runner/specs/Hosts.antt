@@ -18,6 +18,6 @@ hostWorld bytes = outside (kindFrom (kindOfAll true true) 0 (length bytes)) (byt
 abbrev pub hostRun : List ℕ → List ℕ → ℕ → Ran
 hostRun script bytes n = cond (fitsAt 0 (length bytes)) (runOf script n (opened 64 (hostWorld bytes))) (ended (blockNumber DoesNotFit) (opened 64 (hostWorld bytes)))
 
--- the host's bytes afterwards: what its memory shows then
+-- the host's bytes afterwards: what its memory shows then; as they were if they are too many
 abbrev pub hostBytes : List ℕ → List ℕ → ℕ → List ℕ
-hostBytes script bytes n = listFrom (hostRun script bytes n .run .state .world .bytes) 0 (length bytes)
+hostBytes script bytes n = cond (fitsAt 0 (length bytes)) (listFrom (hostRun script bytes n .run .state .world .bytes) 0 (length bytes)) bytes

@@ -31,6 +31,7 @@ pub record Run : Type 0 where
   pub notices : List Notice
   pub cells : ℕ
 
+-- what a desk is, with the world that its controller works on
 abbrev pub runAt : Desk → Outside → Run
 runAt d o = record { state = stateOf (d .controller) o; notices = contents (d .notices); cells = length (cellsOf (d .notices)) }
 
@@ -38,9 +39,11 @@ runAt d o = record { state = stateOf (d .controller) o; notices = contents (d .n
 abbrev pub opened : ℕ → Outside → Run
 opened n o = record { state = fresh o; notices = []; cells = n }
 
+-- another state, and the same notices
 abbrev pub withState : State → Run → Run
 withState s r = record { state = s; notices = r .notices; cells = r .cells }
 
+-- other notices, and the same state
 abbrev pub withNotices : List Notice → Run → Run
 withNotices ns r = record { state = r .state; notices = ns; cells = r .cells }
 
@@ -62,6 +65,7 @@ pub record Stepped : Type 0 where
   pub steps : ℕ
   pub transfers : ℕ
 
+-- no step is done
 abbrev pub noSteps : Run → Stepped
 noSteps r = record { run = r; steps = 0; transfers = 0 }
 

@@ -27,6 +27,7 @@ pub record Ran : Type 0 where
   pub answers : List ℕ
   pub run : Run
 
+-- a run that ends here answers nothing more
 abbrev pub ended : ℕ → Run → Ran
 ended number r = record { refusal = number; answers = []; run = r }
 
@@ -42,6 +43,7 @@ playAll (order ∷ orders) number n r =
     cond (ltb n (length (answerBytes (played order r .1)))) (ended (numberOf NoPlace) r)
     (answered (answerBytes (played order r .1)) (playAll orders number (n - length (answerBytes (played order r .1))) (played order r .0)))
 
+-- the commands that were read of a script, up to the refusal that ended the reading
 abbrev pub playReading : Reading → ℕ → Run → Ran
 playReading reading n r = playAll (reading .orders) (reading .refusal) n r
 

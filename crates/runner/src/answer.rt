@@ -11,7 +11,7 @@ use script::writer::place;
 
 /// What a command answers. A refusal is a number, 0 if there is none.
 #[derive(Clone, Copy)]
-pub(crate) enum Answer {
+pub enum Answer {
     Out { refusal: u8 },
     In { refusal: u8, value: u8 },
     Lines { refusal: u8 },

@@ -1,6 +1,8 @@
 // A controller with its tape of notices, and the commands that need no more.
 ghost use mathlib.Core.Path.{_≡_};
+ghost use lib.Dec.{eqb};
 ghost use lib.ListN.{length};
+ghost use Rattle.tape.specs.Tapes.{room};
 ghost use Rattle.registers.specs.Refusals.{shown};
 ghost use Rattle.controller.specs.Outside.{Outside, Does};
 ghost use Rattle.script.specs.Commands as order;
@@ -15,7 +17,7 @@ use tape::Tape;
 
 /// A controller, and the tape of the notices that wait.
 #[derive(Drop)]
-pub(crate) struct Desk<'a> {
+pub struct Desk<'a> {
     pub(crate) controller: Controller,
     pub(crate) notices: Tape<'a, Notice>,
 }
@@ -32,13 +34,20 @@ fn refusal_number(answer: Result<(), Refusal>) -> u8
 
 impl<'a> Desk<'a> {
     /// A new controller, and no notices yet.
-    pub(crate) fn new(cells: &'a mut [Notice]) -> Desk<'a>
+    pub fn new(cells: &'a mut [Notice]) -> Desk<'a>
         ensures { λ r. ⌜ ((o : Outside) → runAt r o ≡ opened (length (now (cells .entry))) o) ⌝ }
     {
         Desk {
             controller: Controller::new(),
             notices: Tape::empty(cells),
         }
+    }
+
+    /// Whether no further notice finds a cell.
+    pub(crate) fn is_full(&self) -> bool
+        ensures { λ r. ⌜ r ≡ eqb (room (now (self .entry) .notices)) 0 ⌝ }
+    {
+        self.notices.is_full()
     }
 
     /// OUT: a byte to a port.

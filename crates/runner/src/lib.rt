@@ -8,6 +8,8 @@ mod runs;
 mod steps;
 mod worked;
 
+pub use answer::Answer;
+pub use desk::Desk;
 pub use host::sillmint_run;
 pub use notice::Notice;
 pub use notice::NoticeBlank;

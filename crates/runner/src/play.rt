@@ -41,7 +41,7 @@ fn put_bytes<M: Memory>(address: u32, bytes: [u8; 8], memory: &mut M) -> Answer
 
 impl Desk<'_> {
     /// Does what a command says.
-    fn play<M: Memory, B: PortBank>(
+    pub fn play<M: Memory, B: PortBank>(
         &mut self,
         command: Command,
         memory: &mut M,

@@ -57,7 +57,7 @@ impl Desk<'_> {
         let mut steps = 0;
         let mut transfers = 0;
         while steps < count {
-            if self.notices.is_full() {
+            if self.is_full() {
                 break;
             }
             if self.step_once(memory, bank) {
