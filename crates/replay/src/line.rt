@@ -39,7 +39,10 @@ pub impl fmt::Display for Order<'_> as OrderDisplay {
             Command::Step { count } => write!(f, "steps: {count} asked for"),
             Command::Put { address, bytes } => {
                 let [a, b, c, d, e, g, h, i] = *bytes;
-                write!(f, "put {a:02X} {b:02X} {c:02X} {d:02X} {e:02X} {g:02X} {h:02X} {i:02X} at {address:08X}h")
+                write!(
+                    f,
+                    "put {a:02X} {b:02X} {c:02X} {d:02X} {e:02X} {g:02X} {h:02X} {i:02X} at {address:08X}h"
+                )
             }
             Command::Next => f.write_str("next notice"),
         }
@@ -53,7 +56,10 @@ pub struct Reply(pub Answer);
 pub impl fmt::Display for Reply as ReplyDisplay {
     fn fmt<W: fmt::Write>(&self, f: &mut fmt::Formatter<W>) -> fmt::Result {
         match self.0 {
-            Answer::Step { steps, transfers } => write!(f, ", {steps} done, transfers: {transfers}"),
+            Answer::Step { steps, transfers } => write!(
+                f,
+                ", {steps} done, transfers: {transfers}"
+            ),
             Answer::Next { refusal: 0, notice } => {
                 let words = NoticeWords(notice);
                 write!(f, ": {words}")
@@ -85,7 +91,10 @@ pub impl fmt::Display for Line<'_> as LineDisplay {
         let order = Order(self.command);
         let reply = Reply(self.answer);
         write!(f, "{order}{reply}")?;
-        if let (Command::In { port }, Answer::In { refusal: 0, value }) = (self.command, self.answer) {
+        if let (Command::In { port }, Answer::In { refusal: 0, value }) = (
+            self.command,
+            self.answer,
+        ) {
             let value = PortValue { port, value };
             write!(f, ": {value}")?;
         }

@@ -21,7 +21,7 @@ pub struct Machine<'a> {
 
 impl<'a> Machine<'a> {
     /// A new controller with these bytes as its memory from 0 on, and these cells for notices.
-    pub fn new(bytes: &'a mut [u8], cells: &'a mut [Notice]) -> Machine<'a> {
+    pub(crate) fn new(bytes: &'a mut [u8], cells: &'a mut [Notice]) -> Machine<'a> {
         Machine {
             desk: Desk::new(cells),
             memory: Block::over(bytes, 0, true),
@@ -30,7 +30,7 @@ impl<'a> Machine<'a> {
     }
 
     /// Plays a command as a run of a script does.
-    pub fn play(&mut self, command: Command) -> Answer {
+    pub(crate) fn play(&mut self, command: Command) -> Answer {
         self.desk.play(command, &mut self.memory, &mut self.bank)
     }
 }

@@ -47,7 +47,12 @@ fn print_end(rt: &LibcRuntime, at: usize, fault: Option<ScriptFault>) -> io::Res
 }
 
 /// Plays a script and prints a line for each command, with the place of its first byte.
-fn print_script(rt: &LibcRuntime, script: &[u8], machine: &mut Machine, seen: &mut [Seen]) -> io::Result<()> {
+fn print_script(
+    rt: &LibcRuntime,
+    script: &[u8],
+    machine: &mut Machine,
+    seen: &mut [Seen],
+) -> io::Result<()> {
     let mut reader = Script::new(script);
     let mut at = 0usize;
     loop {

@@ -11,26 +11,39 @@ pub struct Seen {
 }
 
 impl Seen {
-    pub fn nothing() -> Seen {
-        Seen { eop: 0, irq13: 0, faults: 0 }
+    pub(crate) fn nothing() -> Seen {
+        Seen {
+            eop: 0,
+            irq13: 0,
+            faults: 0,
+        }
     }
 
-    pub fn any(&self) -> bool {
+    pub(crate) fn any(&self) -> bool {
         self.eop > 0 || self.irq13 > 0 || self.faults > 0
     }
 
     /// With one notice more, of this cause.
     fn with(self, cause: u8) -> Seen {
         match cause {
-            101 => Seen { eop: self.eop.saturating_add(1), ..self },
-            102 => Seen { irq13: self.irq13.saturating_add(1), ..self },
-            _ => Seen { faults: self.faults.saturating_add(1), ..self },
+            101 => Seen {
+                eop: self.eop.saturating_add(1),
+                ..self
+            },
+            102 => Seen {
+                irq13: self.irq13.saturating_add(1),
+                ..self
+            },
+            _ => Seen {
+                faults: self.faults.saturating_add(1),
+                ..self
+            },
         }
     }
 }
 
 /// Counts an answer that is a notice.
-pub fn count(seen: &mut [Seen], answer: Answer) {
+pub(crate) fn count(seen: &mut [Seen], answer: Answer) {
     if let Answer::Next { refusal: 0, notice } = answer {
         let channel = notice.channel as usize;
         if channel < seen.len() {

@@ -7,7 +7,7 @@ fn out(port: u16, value: u8) -> Call {
 }
 
 /// Channel 1 records eight bytes at 010000h; channel 5 plays four words from 020000h.
-pub fn record_and_play() -> [Call; 32] {
+pub(crate) fn record_and_play() -> [Call; 32] {
     let step = Call::Step;
     [
         // channel 1: masked, single, device to memory, address 0000h, page 01h, eight transfers
@@ -49,7 +49,7 @@ pub fn record_and_play() -> [Call; 32] {
 }
 
 /// A bus master on channel 6 writes a list of two entries; channel 0 runs it while channel 7 verifies.
-pub fn share_the_bus() -> [Call; 64] {
+pub(crate) fn share_the_bus() -> [Call; 64] {
     let step = Call::Step;
     let [a, b, c, d, e, f, g, h] = entry(0x0001_0100, 1, false, 0x0001_0000);
     let [i, j, k, l, m, n, o, p] = entry(0x0001_0200, 0, true, 0x0001_0008);
@@ -79,11 +79,28 @@ pub fn share_the_bus() -> [Call; 64] {
         n,
         o,
         p,
-        Call::Cycle { cycle: Cycle::Read { address: 0x0001_000F } },
-        Call::Cycle { cycle: Cycle::Write { address: 0x0002_0000, byte: 0xFF } },
-        Call::Cycle { cycle: Cycle::Read { address: 0x0001_0800 } },
+        Call::Cycle {
+            cycle: Cycle::Read {
+                address: 0x0001_000F,
+            },
+        },
+        Call::Cycle {
+            cycle: Cycle::Write {
+                address: 0x0002_0000,
+                byte: 0xFF,
+            },
+        },
+        Call::Cycle {
+            cycle: Cycle::Read {
+                address: 0x0001_0800,
+            },
+        },
         Call::Release,
-        Call::Cycle { cycle: Cycle::Read { address: 0x0001_0000 } },
+        Call::Cycle {
+            cycle: Cycle::Read {
+                address: 0x0001_0000,
+            },
+        },
         // channel 0 runs the list at 010000h, device to memory, IRQ13 at its end
         out(0x0B, 0x04),
         out(0x420, 0x00),
@@ -142,5 +159,10 @@ fn entry(address: u32, count: u16, last: bool, at: u32) -> [Call; 8] {
 }
 
 fn put(at: u32, place: u32, byte: u8) -> Call {
-    Call::Cycle { cycle: Cycle::Write { address: at.wrapping_add(place), byte } }
+    Call::Cycle {
+        cycle: Cycle::Write {
+            address: at.wrapping_add(place),
+            byte,
+        },
+    }
 }

@@ -34,8 +34,12 @@ impl fmt::Display for CallWords as CallWordsDisplay {
             Call::Step => write!(f, "step"),
             Call::Inspect { channel } => write!(f, "inspect channel {channel}"),
             Call::Take => write!(f, "take"),
-            Call::Cycle { cycle: Cycle::Read { address } } => write!(f, "read cycle at {address:06X}h"),
-            Call::Cycle { cycle: Cycle::Write { address, byte } } => write!(f, "write cycle {byte:02X}h at {address:06X}h"),
+            Call::Cycle {
+                cycle: Cycle::Read { address },
+            } => write!(f, "read cycle at {address:06X}h"),
+            Call::Cycle {
+                cycle: Cycle::Write { address, byte },
+            } => write!(f, "write cycle {byte:02X}h at {address:06X}h"),
             Call::Release => write!(f, "release"),
         }
     }
@@ -51,10 +55,22 @@ impl fmt::Display for AnswerWords as AnswerWordsDisplay {
             Answer::Read { refusal, value } => write!(f, "{}, {value:02X}h", Refused(refusal)),
             Answer::Lines { refusal } => write!(f, "{}", Refused(refusal)),
             Answer::Step { outcome } => write!(f, "{}", Outcome(outcome)),
-            Answer::Inspect { refusal, address, count } => {
-                write!(f, "{}, address {address:04X}h, count {count:04X}h", Refused(refusal))
+            Answer::Inspect {
+                refusal,
+                address,
+                count,
+            } => {
+                write!(
+                    f,
+                    "{}, address {address:04X}h, count {count:04X}h",
+                    Refused(refusal)
+                )
             }
-            Answer::Take { refusal, channel } => write!(f, "{}, channel {channel}", Refused(refusal)),
+            Answer::Take { refusal, channel } => write!(
+                f,
+                "{}, channel {channel}",
+                Refused(refusal)
+            ),
             Answer::Cycle { refusal, byte } => write!(f, "{}, {byte:02X}h", Refused(refusal)),
             Answer::Release { refusal } => write!(f, "{}", Refused(refusal)),
         }
@@ -82,14 +98,36 @@ impl fmt::Display for Outcome as OutcomeDisplay {
             Ok(Event::Idle) => write!(f, "idle"),
             Ok(Event::Away) => write!(f, "the bus is away"),
             Ok(Event::Lent { channel }) => write!(f, "the bus goes out to channel {channel}"),
-            Ok(Event::Fetched { channel, address }) => write!(f, "channel {channel} fetches its entry at {address:06X}h"),
-            Ok(Event::Moved { channel, address, unit, signal }) => {
+            Ok(Event::Fetched { channel, address }) => write!(
+                f,
+                "channel {channel} fetches its entry at {address:06X}h"
+            ),
+            Ok(
+                Event::Moved {
+                    channel,
+                    address,
+                    unit,
+                    signal,
+                },
+            ) => {
                 let end = SignalWords(signal);
-                write!(f, "channel {channel} moves {unit:04X}h at {address:06X}h{end}")
+                write!(
+                    f,
+                    "channel {channel} moves {unit:04X}h at {address:06X}h{end}"
+                )
             }
-            Err(Fault { cause, channel, address }) => {
+            Err(
+                Fault {
+                    cause,
+                    channel,
+                    address,
+                },
+            ) => {
                 let number = cause.number();
-                write!(f, "channel {channel} faults with {number} at {address:06X}h")
+                write!(
+                    f,
+                    "channel {channel} faults with {number} at {address:06X}h"
+                )
             }
         }
     }

@@ -25,7 +25,10 @@ use tape::U16Blank;
 /// Prints each call with its answer.
 fn print_calls(rt: &LibcRuntime, calls: &[Call], answers: &[Answer]) -> io::Result<()> {
     for (call, answer) in calls.iter().zip(answers.iter()) {
-        let said = Said { call: *call, answer: *answer };
+        let said = Said {
+            call: *call,
+            answer: *answer,
+        };
         println!(rt, "  {said}")?;
     }
     Ok(())
@@ -59,7 +62,10 @@ fn print_units(rt: &LibcRuntime, what: &str, tape: &mut Tape<u16>) -> io::Result
 fn let_go(session: Session)
     requires { ⌜ Holding (session .grant) (session .controller .bus) ⌝ }
 {
-    let Session { mut controller, grant } = session;
+    let Session {
+        mut controller,
+        grant,
+    } = session;
     match grant {
         None => {}
         Some(grant) => match controller.release(grant) {
@@ -70,12 +76,38 @@ fn let_go(session: Session)
 }
 
 /// A recording on channel 1 and a playback on channel 5.
-pub fn record_and_play(rt: &LibcRuntime) -> io::Result<()> {
-    println!(rt, "A take recorded on channel 1, and one played back on channel 5")?;
+pub(crate) fn record_and_play(rt: &LibcRuntime) -> io::Result<()> {
+    println!(
+        rt,
+        "A take recorded on channel 1, and one played back on channel 5"
+    )?;
     let mut low = [0u8; 4096];
     let mut high = [0u8; 16];
-    high.copy_from_slice(&[0x01, 0x10, 0x02, 0x20, 0x03, 0x30, 0x04, 0x40, 0, 0, 0, 0, 0, 0, 0, 0]);
-    let map = Join::new(Block::over(&mut low, 0x1_0000, true), Block::over(&mut high, 0x2_0000, false), 0x2_0000);
+    high.copy_from_slice(
+        &[
+            0x01,
+            0x10,
+            0x02,
+            0x20,
+            0x03,
+            0x30,
+            0x04,
+            0x40,
+            0,
+            0,
+            0,
+            0,
+            0,
+            0,
+            0,
+            0,
+        ],
+    );
+    let map = Join::new(
+        Block::over(&mut low, 0x1_0000, true),
+        Block::over(&mut high, 0x2_0000, false),
+        0x2_0000,
+    );
     let mut memory = Hole::new(map, 0x1_0800, 0x1_0FFF);
     let mut take = [0x11, 0x22, 0x33, 0x44, 0x55, 0x66, 0x77, 0x88, 0x99];
     let mut room = [0u16; 6];
@@ -105,11 +137,18 @@ pub fn record_and_play(rt: &LibcRuntime) -> io::Result<()> {
 }
 
 /// A bus master writes a list, channel 0 runs it, and channel 7 verifies beside it.
-pub fn share_the_bus(rt: &LibcRuntime) -> io::Result<()> {
-    println!(rt, "A bus master on channel 6 writes a list, channel 0 runs it, channel 7 verifies")?;
+pub(crate) fn share_the_bus(rt: &LibcRuntime) -> io::Result<()> {
+    println!(
+        rt,
+        "A bus master on channel 6 writes a list, channel 0 runs it, channel 7 verifies"
+    )?;
     let mut low = [0u8; 4096];
     let mut high = [0u8; 16];
-    let map = Join::new(Block::over(&mut low, 0x1_0000, true), Block::over(&mut high, 0x2_0000, false), 0x2_0000);
+    let map = Join::new(
+        Block::over(&mut low, 0x1_0000, true),
+        Block::over(&mut high, 0x2_0000, false),
+        0x2_0000,
+    );
     let mut memory = Hole::new(map, 0x1_0800, 0x1_0FFF);
     let mut take = [0xA1, 0xA2, 0xA3, 0xA4];
     let mut room = [0u16; 0];

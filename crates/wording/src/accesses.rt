@@ -63,7 +63,10 @@ pub struct Levels {
 
 pub impl fmt::Display for Levels as LevelsDisplay {
     fn fmt<W: fmt::Write>(&self, f: &mut fmt::Formatter<W>) -> fmt::Result {
-        let high = Channels { bits: self.bits, first: 0 };
+        let high = Channels {
+            bits: self.bits,
+            first: 0,
+        };
         write!(f, "lines high: {high}")
     }
 }

@@ -52,7 +52,9 @@ fn script_reason(number: u8) -> Option<&'static str> {
 pub impl fmt::Display for Reason as ReasonDisplay {
     fn fmt<W: fmt::Write>(&self, f: &mut fmt::Formatter<W>) -> fmt::Result {
         let number = self.0;
-        let known = caller_reason(number).or(layer_reason(number)).or(script_reason(number));
+        let known = caller_reason(number)
+            .or(layer_reason(number))
+            .or(script_reason(number));
         f.write_str(known.unwrap_or("unknown"))
     }
 }

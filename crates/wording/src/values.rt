@@ -87,7 +87,12 @@ fn either(value: u8, mask: u8, set: &'static str, clear: &'static str) -> &'stat
 }
 
 /// What a value asks of a channel that its two low bits pick.
-fn asked_of_channel<W: fmt::Write>(f: &mut fmt::Formatter<W>, control: Control, channel: u8, value: u8) -> fmt::Result {
+fn asked_of_channel<W: fmt::Write>(
+    f: &mut fmt::Formatter<W>,
+    control: Control,
+    channel: u8,
+    value: u8,
+) -> fmt::Result {
     match control {
         Control::Request | Control::Mask => {
             let to = either(value, 0x04, "set", "clear");
@@ -109,7 +114,12 @@ fn asked_of_channel<W: fmt::Write>(f: &mut fmt::Formatter<W>, control: Control, 
 }
 
 /// What a value asks of a group.
-fn asked_of_group<W: fmt::Write>(f: &mut fmt::Formatter<W>, control: Control, dma: Dma, value: u8) -> fmt::Result {
+fn asked_of_group<W: fmt::Write>(
+    f: &mut fmt::Formatter<W>,
+    control: Control,
+    dma: Dma,
+    value: u8,
+) -> fmt::Result {
     match control {
         Control::Command => {
             let enable = either(value, 0x04, "disabled", "enabled");
@@ -118,7 +128,10 @@ fn asked_of_group<W: fmt::Write>(f: &mut fmt::Formatter<W>, control: Control, dm
             write!(f, ", {enable}, {priority} priority, lines active {lines}")
         }
         Control::AllMasks => {
-            let set = Channels { bits: value & 0x0F, first: first(dma) };
+            let set = Channels {
+                bits: value & 0x0F,
+                first: first(dma),
+            };
             write!(f, ", set: {set}")
         }
         _ => asked_of_channel(f, control, first(dma).saturating_add(value % 4), value),
@@ -155,16 +168,28 @@ pub impl fmt::Display for Shown as ShownDisplay {
         let value = self.value;
         match read_port(self.port) {
             Some(ReadPort::Status(dma)) => {
-                let done = Channels { bits: value & 0x0F, first: first(dma) };
-                let active = Channels { bits: value >> 4, first: first(dma) };
+                let done = Channels {
+                    bits: value & 0x0F,
+                    first: first(dma),
+                };
+                let active = Channels {
+                    bits: value >> 4,
+                    first: first(dma),
+                };
                 write!(f, ", terminal count: {done}, requests: {active}")
             }
             Some(ReadPort::AllMasks(dma)) => {
-                let set = Channels { bits: value, first: first(dma) };
+                let set = Channels {
+                    bits: value,
+                    first: first(dma),
+                };
                 write!(f, ", set: {set}")
             }
             Some(ReadPort::Irq13) => {
-                let set = Channels { bits: value, first: 0 };
+                let set = Channels {
+                    bits: value,
+                    first: 0,
+                };
                 write!(f, ", set: {set}")
             }
             Some(ReadPort::ListStatus(_)) => shown_of_list(f, value),
