@@ -1,4 +1,6 @@
 // The controller: services, transfers, descriptor fetches, grants and inspection over the register file.
+#![tactic(auto)]
+
 pub mod asking;
 pub mod carrying;
 pub mod controller;

@@ -1,4 +1,6 @@
 // Memories: what one is, the ones delivered here, and a write of eight bytes at once.
+#![tactic(auto)]
+
 pub mod blocks;
 pub mod holes;
 pub mod joins;

@@ -1,4 +1,6 @@
 // A worked example: a memory, a bank and a tape element of one's own, and a map over lent bytes.
+#![tactic(auto)]
+
 pub mod equals;
 pub mod maps;
 pub mod marks;

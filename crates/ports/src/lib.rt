@@ -1,4 +1,6 @@
 // Port banks: what one is, and the ones delivered here.
+#![tactic(auto)]
+
 pub mod bank;
 pub mod decks;
 pub mod faults;

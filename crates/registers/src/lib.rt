@@ -1,4 +1,6 @@
 // The register file of the seven DMA channels: what a driver reads and writes.
+#![tactic(auto)]
+
 pub mod channel;
 pub mod file;
 pub mod group;

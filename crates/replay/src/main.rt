@@ -1,4 +1,6 @@
 // Says in words what the script on standard input does.
+#![tactic(auto)]
+
 mod line;
 mod machine;
 mod notices;

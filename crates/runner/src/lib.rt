@@ -1,4 +1,6 @@
 // A script run on a controller with a memory, a port bank and a tape of notices.
+#![tactic(auto)]
+
 mod answer;
 mod desk;
 mod host;

@@ -1,4 +1,6 @@
 // Scripts of commands to a DMA controller: what a command is, a reader and a writer.
+#![tactic(auto)]
+
 pub mod command;
 pub mod fault;
 pub mod reader;

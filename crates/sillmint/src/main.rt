@@ -1,4 +1,6 @@
 // Runs the script on standard input, and prints its answers.
+#![tactic(auto)]
+
 ghost use Rattle.std.specs.Prelude.{◌≤◌, length, IfOk};
 
 use runner::{Outcome, sillmint_run};

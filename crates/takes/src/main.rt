@@ -1,4 +1,6 @@
 // A take recorded on channel 1 and one played back on channel 5, and a bus master beside a list and plain jobs.
+#![tactic(auto)]
+
 mod calls;
 mod says;
 mod scenes;

@@ -1,4 +1,6 @@
 // Tapes: first-in, first-out lines over lent cells.
+#![tactic(auto)]
+
 pub mod blanks;
 pub mod lines;
 mod places;

@@ -1,4 +1,6 @@
 // Accesses and refusals in words, for programs that print them.
+#![tactic(auto)]
+
 mod accesses;
 mod channels;
 mod ports;
