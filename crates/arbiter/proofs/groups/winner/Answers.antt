@@ -5,5 +5,5 @@ use Rattle.arbiter.proofs.groups.winner.Goals as goal
 
 pub returns : goal.returns
 returns c =
-    sides_won c.args.first c.args.second c.choose-own.result c.choose-outer.result c.from.result c.choice-of.result
+    sides_won c.args.first c.args.second c.choose-own.result c.choose-outer.result c.from.result c.choice_of.result
     (search rules) (search rules) (search rules) (search rules)

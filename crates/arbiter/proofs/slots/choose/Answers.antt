@@ -13,4 +13,4 @@ returns-then-asking-eq0 c =
 pub returns : goal.returns
 returns c =
     chosen (asks_in c.args.asking) c.args.rotating c.args.last _
-    (masked_some c.args.asking c.args.rotating c.args.last _ c.first-from.result (search rules) c.first-from.ensures)
+    (masked_some c.args.asking c.args.rotating c.args.last _ c.first_from.result (search rules) c.first_from.ensures)

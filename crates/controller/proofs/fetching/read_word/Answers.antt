@@ -2,21 +2,21 @@ use Rattle.std.proofs.Common.{rules}
 use Rattle.controller.specs.Fetching.{fetched_word}
 use Rattle.controller.proofs.fetching.read_word.Goals as goal
 
-pub returns-in-err-a : goal.returns-in-err-a
+pub returns-in_err-a : goal.returns-in_err-a
 unfolding fetched_word
-returns-in-err-a g c = search rules
+returns-in_err-a g c = search rules
 
-pub returns-in-err-b : goal.returns-in-err-b
+pub returns-in_err-b : goal.returns-in_err-b
 unfolding fetched_word
-returns-in-err-b g c = search rules
+returns-in_err-b g c = search rules
 
-pub returns-in-err-c : goal.returns-in-err-c
+pub returns-in_err-c : goal.returns-in_err-c
 unfolding fetched_word
-returns-in-err-c g c = search rules
+returns-in_err-c g c = search rules
 
-pub returns-in-err-d : goal.returns-in-err-d
+pub returns-in_err-d : goal.returns-in_err-d
 unfolding fetched_word
-returns-in-err-d g c = search rules
+returns-in_err-d g c = search rules
 
 pub returns : goal.returns
 unfolding fetched_word

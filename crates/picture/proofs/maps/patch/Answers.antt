@@ -13,9 +13,9 @@ returns c =
     let after = c.put.new.memory in
     let made = c.over-block.ensures in
     let did = c.put.ensures in
-    let fits = c.in-default.ensures in
+    let fits = c.in_default.ensures in
     record {
-      answer = patch_answer bs a (block_kind before) fits made.kinds c.put.result c.number-of.result did.answer c.number-of.ensures;
+      answer = patch_answer bs a (block_kind before) fits made.kinds c.put.result c.number_of.result did.answer c.number_of.ensures;
       after = patch_bytes bs a (block_kind before) fits made.kinds c.args.eight (block_byte before) (block_byte after) made.bytes did.bytes
           (came-back 0 (length bs) before after (block_byte after) (search rules) (search rules) made.lender.2 did.stays refl);
     }

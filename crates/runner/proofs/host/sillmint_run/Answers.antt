@@ -22,7 +22,7 @@ returns c =
     let after = c.run.new.memory in
     let made = c.over-block.ensures in
     let did = c.run.ensures in
-    let fits = c.in-default.ensures in
+    let fits = c.in_default.ensures in
     let waiting = ramp_waiting c.counting-bank.result in
     record {
       answers = host_answers c.args.script.now bytes c.args.output.now fits (block_kind before) (block_byte before) waiting made.kinds made.bytes c.counting-bank.ensures

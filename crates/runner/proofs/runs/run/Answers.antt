@@ -9,8 +9,8 @@ loop-command-init g c =
     let o = world_of g.M.Memory g.B.PortBank c.args.memory.now c.args.bank.now in
     (running_none c.new-reader.ensures (c.new-desk.ensures o), refl)
 
-pub overflow-add-length : goal.overflow-add-length
-overflow-add-length g c =
+pub overflow_add-length : goal.overflow_add-length
+overflow_add-length g c =
     let more = running_more c.loop-command.invariant.0 (search rules) c.next.ensures.rest (search rules) c.in-Ok.ensures.does in
     omega (arith, more.within)
 

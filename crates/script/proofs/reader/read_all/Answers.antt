@@ -34,7 +34,7 @@ returns-then-count-commands c =
       refusal = ap (λ r. r.refusal) (sym read);
       commands = ap (λ r. r.orders) (sym read);
       others = c.loop-command.invariant.2;
-      rewrites = script_rewrites c.args.bytes.now (λ i. omega (arith, c.type-inv.bytes i));
+      rewrites = script_rewrites c.args.bytes.now (λ i. omega (arith, c.type_inv.bytes i));
     }
 
 pub returns-in-Ok-None : goal.returns-in-Ok-None
@@ -47,7 +47,7 @@ returns-in-Ok-None c =
       refusal = ap (λ r. r.refusal) (sym read);
       commands = ap (λ r. r.orders) (sym read);
       others = c.loop-command.invariant.2;
-      rewrites = script_rewrites c.args.bytes.now (λ i. omega (arith, c.type-inv.bytes i));
+      rewrites = script_rewrites c.args.bytes.now (λ i. omega (arith, c.type_inv.bytes i));
     }
 
 pub returns-in-Err : goal.returns-in-Err
@@ -60,5 +60,5 @@ returns-in-Err c =
       refusal = ap (λ r. r.refusal) (sym read);
       commands = ap (λ r. r.orders) (sym read);
       others = c.loop-command.invariant.2;
-      rewrites = script_rewrites c.args.bytes.now (λ i. omega (arith, c.type-inv.bytes i));
+      rewrites = script_rewrites c.args.bytes.now (λ i. omega (arith, c.type_inv.bytes i));
     }

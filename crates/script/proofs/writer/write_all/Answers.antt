@@ -14,7 +14,7 @@ loop-command-preserved c =
     let i = c.loop-command.command-index in
     filling_more c.args.out.now (map order_of commands) i c.loop-command.size c.loop-command.out c.loop-command.invariant
     (order_of (get_or commands i (Out 0 0))) (row_here commands i (Out 0 0) (search rules)) (row_front commands i (Out 0 0) (search rules))
-    c.write.new.out c.write.ensures.block c.in-Ok.more c.in-Ok.ensures.answer c.write.ensures.reads-back
+    c.write.new.out c.write.ensures.block c.in-Ok.more c.in-Ok.ensures.answer c.write.ensures.reads_back
 
 pub returns-in-Err : goal.returns-in-Err
 returns-in-Err c =
@@ -31,7 +31,7 @@ returns-in-Err c =
       refusal = full.2 ∙ written_some _ orders i _ _ full.1 full.0 (simp length-map (search rules));
       block = written_block _ orders i _ _ full.1 full.0;
       whole = search rules;
-      reads-back = written_reads_back _ orders i _ _ full.1 full.0;
+      reads_back = written_reads_back _ orders i _ _ full.1 full.0;
     }
 
 pub returns : goal.returns
@@ -44,5 +44,5 @@ returns c =
       refusal = written_all _ orders i _ _ c.loop-command.invariant all (simp length-map (search rules));
       block = written_block _ orders i _ _ c.loop-command.invariant all;
       whole = λ _. all ∙ take_all i orders (simp length-map (search rules));
-      reads-back = written_reads_back _ orders i _ _ c.loop-command.invariant all;
+      reads_back = written_reads_back _ orders i _ _ c.loop-command.invariant all;
     }

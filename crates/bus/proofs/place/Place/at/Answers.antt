@@ -8,12 +8,12 @@ pub returns-in-Bytes : goal.returns-in-Bytes
 returns-in-Bytes c =
     record {
       value = search (rules, at_bytes);
-      back = address-back c.args.addressing c.args.address c.args.old-low _ (search (rules, at_bytes)) (search rules);
+      back = address-back c.args.addressing c.args.address c.args.old_low _ (search (rules, at_bytes)) (search rules);
     }
 
 pub returns-in-Words : goal.returns-in-Words
 returns-in-Words c =
     record {
       value = search (rules, at_words);
-      back = address-back c.args.addressing c.args.address c.args.old-low _ (search (rules, at_words)) (search rules);
+      back = address-back c.args.addressing c.args.address c.args.old_low _ (search (rules, at_words)) (search rules);
     }

@@ -7,8 +7,8 @@ use Rattle.runner.specs.Plays.{run_at}
 use Rattle.runner.proofs.Turns.{turn_refused, turn_done}
 use Rattle.runner.proofs.desk.Desk.answer.Goals as goal
 
-pub returns-then-out-answer-size : goal.returns-then-out-answer-size
-returns-then-out-answer-size g c =
+pub returns-then-out-answer_size : goal.returns-then-out-answer_size
+returns-then-out-answer_size g c =
     let r = run_at c.args.self.now (world_of g.M.Memory g.B.PortBank c.args.memory.now c.args.bank.now) in
     record { does = turn_refused (order_of c.args.command) c.args.out.now r (omega arith); stays = refl {a = g.M.Memory.fixed c.args.memory.now} }
 

@@ -7,5 +7,5 @@ use Rattle.runner.proofs.desk.Desk.lines.Goals as goal
 pub returns : goal.returns
 returns c = λ o. record {
   state = ap (λ s. with_state s (run_at c.args.self.now o)) (c.lines.ensures.state o);
-  answer = ap answer.Lines (c.refusal-number-refusal.ensures ∙ c.lines.ensures.answer);
+  answer = ap answer.Lines (c.refusal_number-refusal.ensures ∙ c.lines.ensures.answer);
 }

@@ -7,5 +7,5 @@ use Rattle.runner.proofs.desk.Desk.out.Goals as goal
 pub returns : goal.returns
 returns c = λ o. record {
   state = ap (λ s. with_state s (run_at c.args.self.now o)) (c.write.ensures.state o);
-  answer = ap answer.Out (c.refusal-number-refusal.ensures ∙ c.write.ensures.answer);
+  answer = ap answer.Out (c.refusal_number-refusal.ensures ∙ c.write.ensures.answer);
 }

@@ -11,7 +11,7 @@ returns g c =
     let before = world_of g.M.Memory g.B.PortBank c.args.memory.now c.args.bank.now in
     let after = world_of g.M.Memory g.B.PortBank c.step-outcome.new.memory c.step-outcome.new.bank in
     record {
-      does = once (run_at c.args.self.now before) (state_of c.step-outcome.new.self after) _ c.step-outcome.result _ _ c.is-transfer.result
-          c.step-outcome.ensures.does (ap (λ k. state_of k after) c.note.ensures.controller) c.note.ensures.notices c.note.ensures.cells c.is-transfer.ensures;
+      does = once (run_at c.args.self.now before) (state_of c.step-outcome.new.self after) _ c.step-outcome.result _ _ c.is_transfer.result
+          c.step-outcome.ensures.does (ap (λ k. state_of k after) c.note.ensures.controller) c.note.ensures.notices c.note.ensures.cells c.is_transfer.ensures;
       stays = c.step-outcome.ensures.lenders;
     }

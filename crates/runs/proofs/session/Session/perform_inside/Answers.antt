@@ -12,7 +12,7 @@ returns-in-Write c =
     let here = bus_of c.write.new.self (λ o. with_registers (written c.in-Write.port c.in-Write.value was.registers) (state_of was o)) c.write.ensures.state in
     record {
       does = λ o. by_call (state_of was o) _ _ _ _ c.in-Write.is
-          (record { state = c.write.ensures.state o; answer = c.write-answer.ensures ∙ ap told.Write c.write.ensures.answer });
+          (record { state = c.write.ensures.state o; answer = c.write_answer.ensures ∙ ap told.Write c.write.ensures.answer });
       holding = still_held c.args.self.now.grant was.bus _ here c.requires.1;
     }
 
@@ -22,7 +22,7 @@ returns-in-Read c =
     let here = bus_of c.read.new.self (λ o. with_registers (read_leaves c.in-Read.port was.registers) (state_of was o)) c.read.ensures.state in
     record {
       does = λ o. by_call (state_of was o) _ _ _ _ c.in-Read.is
-          (record { state = c.read.ensures.state o; answer = c.read-answer.ensures ∙ ap₂ told.Read c.read.ensures.answer c.read.ensures.value });
+          (record { state = c.read.ensures.state o; answer = c.read_answer.ensures ∙ ap₂ told.Read c.read.ensures.answer c.read.ensures.value });
       holding = still_held c.args.self.now.grant was.bus _ here c.requires.1;
     }
 
@@ -32,7 +32,7 @@ returns-in-Lines c =
     let here = bus_of c.lines.new.self (λ o. with_registers (lined c.in-Lines.bits was.registers) (state_of was o)) c.lines.ensures.state in
     record {
       does = λ o. by_call (state_of was o) _ _ _ _ c.in-Lines.is
-          (record { state = c.lines.ensures.state o; answer = c.lines-answer.ensures ∙ ap told.Lines c.lines.ensures.answer });
+          (record { state = c.lines.ensures.state o; answer = c.lines_answer.ensures ∙ ap told.Lines c.lines.ensures.answer });
       holding = still_held c.args.self.now.grant was.bus _ here c.requires.1;
     }
 
@@ -44,7 +44,7 @@ returns-in-Inspect c =
       does = λ o. by_call (state_of was o) _ _ _ _ c.in-Inspect.is
           (record {
             state = c.inspect.ensures.state o;
-            answer = c.inspect-answer.ensures ∙ ap₂ (λ n (x : Inspection). told.Inspect n x.address x.count) c.inspect.ensures.answer c.inspect.ensures.value;
+            answer = c.inspect_answer.ensures ∙ ap₂ (λ n (x : Inspection). told.Inspect n x.address x.count) c.inspect.ensures.answer c.inspect.ensures.value;
           });
       holding = still_held c.args.self.now.grant was.bus _ here c.requires.1;
     }

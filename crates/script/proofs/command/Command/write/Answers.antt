@@ -9,5 +9,5 @@ returns-in-Put c =
     record {
       answer = search rules;
       block = search rules;
-      reads-back = λ s. rw c.in-Put.is (command_reads_back (Put c.in-Put.address c.in-Put.bytes.now) (search rules, c.put-bytes.ensures.eight) s);
+      reads_back = λ s. rw c.in-Put.is (command_reads_back (Put c.in-Put.address c.in-Put.bytes.now) (search rules, c.put_bytes.ensures.eight) s);
     }

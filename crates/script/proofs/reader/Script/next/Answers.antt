@@ -9,12 +9,12 @@ returns-in-empty c = record { answer = search rules; rest = search rules; shorte
 
 pub returns-in-1 : goal.returns-in-1
 returns-in-1 c =
-    let t = out_there c.args.self.now.rest.now _ c.from-le-bytes-port.ensures (search rules) (search rules) (search rules) (search rules) in
+    let t = out_there c.args.self.now.rest.now _ c.from_le_bytes-port.ensures (search rules) (search rules) (search rules) (search rules) in
     record { answer = t.answer; rest = t.rest; shorter = t.shorter }
 
 pub returns-in-2 : goal.returns-in-2
 returns-in-2 c =
-    let t = in_there c.args.self.now.rest.now _ c.from-le-bytes-port-in-2.ensures (search rules) (search rules) (search rules) (search rules) in
+    let t = in_there c.args.self.now.rest.now _ c.from_le_bytes-port-in-2.ensures (search rules) (search rules) (search rules) (search rules) in
     record { answer = t.answer; rest = t.rest; shorter = t.shorter }
 
 pub returns-in-3 : goal.returns-in-3
@@ -24,7 +24,7 @@ returns-in-3 c =
 
 pub returns-in-4 : goal.returns-in-4
 returns-in-4 c =
-    let t = step_there c.args.self.now.rest.now _ c.from-le-bytes-count.ensures (search rules) (search rules) (search rules) (search rules) in
+    let t = step_there c.args.self.now.rest.now _ c.from_le_bytes-count.ensures (search rules) (search rules) (search rules) (search rules) in
     record { answer = t.answer; rest = t.rest; shorter = t.shorter }
 
 pub returns-in-5 : goal.returns-in-5
@@ -33,7 +33,7 @@ returns-in-5 c =
     let h = c.in-Some.ensures.cases in
     let after = sym (take_rest s 5) ∙ split_whole (take (length s - 5) (drop 5 s)) _ _ h.0 h.1 in
     let eight = split_eight (take (length s - 5) (drop 5 s)) _ _ h.0 h.1 h.2 in
-    let t = put_there s _ _ after eight _ (search rules) c.from-le-bytes-address.ensures (search rules) (search rules) (search rules) (search rules) in
+    let t = put_there s _ _ after eight _ (search rules) c.from_le_bytes-address.ensures (search rules) (search rules) (search rules) (search rules) in
     record { answer = t.answer; rest = t.rest; shorter = t.shorter }
 
 pub returns-in-6 : goal.returns-in-6
