@@ -12,7 +12,7 @@ use registers::mode::Transfer;
 
 // The first byte of a unit that is absent.
 fn first_absent<M: Memory>(memory: &M, addressing: Addressing, address: u32) -> Option<u32>
-    ensures { result ≡ first_of_kind is_absent (kind_at memory.now) addressing address }
+    ensures { result ≡ first_of_kind is_absent (M.kind_at memory.now) addressing address }
 {
     if let Kind::Absent = memory.kind(address) {
         return Some(address);
@@ -31,7 +31,7 @@ fn first_absent<M: Memory>(memory: &M, addressing: Addressing, address: u32) -> 
 
 // The first byte of a unit that is read-only.
 fn first_read_only<M: Memory>(memory: &M, addressing: Addressing, address: u32) -> Option<u32>
-    ensures { result ≡ first_of_kind is_read_only (kind_at memory.now) addressing address }
+    ensures { result ≡ first_of_kind is_read_only (M.kind_at memory.now) addressing address }
 {
     if let Kind::ReadOnly = memory.kind(address) {
         return Some(address);
@@ -55,7 +55,7 @@ fn check_present<M: Memory>(
     addressing: Addressing,
     address: u32,
 ) -> Result<(), Fault>
-    ensures { result ≡ presence (kind_at memory.now) channel addressing address }
+    ensures { result ≡ presence (M.kind_at memory.now) channel addressing address }
 {
     match first_absent(memory, addressing, address) {
         Some(at) => Err(Fault {
@@ -74,7 +74,7 @@ fn check_writable<M: Memory>(
     addressing: Addressing,
     address: u32,
 ) -> Result<(), Fault>
-    ensures { result ≡ writability (kind_at memory.now) channel addressing address }
+    ensures { result ≡ writability (M.kind_at memory.now) channel addressing address }
 {
     check_present(memory, channel, addressing, address)?;
     match first_read_only(memory, addressing, address) {
@@ -109,7 +109,7 @@ fn offer<M: Memory, B: PortBank>(
     addressing: Addressing,
     address: u32,
 ) -> Result<u16, Fault>
-    ensures { result ≡ offered (outside (kind_at memory.now) (byte_at memory.now) (waiting bank.now) (kept bank.now) (free bank.now)) channel addressing address }
+    ensures { result ≡ offered (outside (M.kind_at memory.now) (M.byte_at memory.now) (B.waiting bank.now) (B.kept bank.now) (B.free bank.now)) channel addressing address }
 {
     check_writable(memory, channel, addressing, address)?;
     let unit = at_port(bank.look(channel), channel, address)?;
@@ -124,11 +124,11 @@ fn store<M: Memory>(
     address: u32,
     unit: u16,
 ) -> Result<(), Fault>
-    requires { (writability (kind_at memory.old) channel addressing address ≡ Ok tt) × (width channel addressing address unit ≡ Ok unit) }
+    requires { (writability (M.kind_at memory.old) channel addressing address ≡ Ok tt) × (width channel addressing address unit ≡ Ok unit) }
     ensures answer { result ≡ Ok tt }
-    ensures kinds { kind_at memory.new ≡ kind_at memory.old }
-    ensures bytes { byte_at memory.new ≡ stored_unit addressing (byte_at memory.old) address unit }
-    ensures lenders { fixed memory.new ≡ fixed memory.old }
+    ensures kinds { M.kind_at memory.new ≡ M.kind_at memory.old }
+    ensures bytes { M.byte_at memory.new ≡ stored_unit addressing (M.byte_at memory.old) address unit }
+    ensures lenders { M.fixed memory.new ≡ M.fixed memory.old }
 {
     let [low, high] = unit.to_le_bytes();
     at_memory(memory.write(address, low), channel, address)?;
@@ -149,8 +149,8 @@ fn carry_in<M: Memory, B: PortBank>(
     addressing: Addressing,
     address: u32,
 ) -> Result<u16, Fault>
-    ensures does { Does (take_in (outside (kind_at memory.old) (byte_at memory.old) (waiting bank.old) (kept bank.old) (free bank.old)) channel addressing address (offered (outside (kind_at memory.old) (byte_at memory.old) (waiting bank.old) (kept bank.old) (free bank.old)) channel addressing address)) (outside (kind_at memory.new) (byte_at memory.new) (waiting bank.new) (kept bank.new) (free bank.new)) result }
-    ensures lenders { fixed memory.new ≡ fixed memory.old }
+    ensures does { Does (take_in (outside (M.kind_at memory.old) (M.byte_at memory.old) (B.waiting bank.old) (B.kept bank.old) (B.free bank.old)) channel addressing address (offered (outside (M.kind_at memory.old) (M.byte_at memory.old) (B.waiting bank.old) (B.kept bank.old) (B.free bank.old)) channel addressing address)) (outside (M.kind_at memory.new) (M.byte_at memory.new) (B.waiting bank.new) (B.kept bank.new) (B.free bank.new)) result }
+    ensures lenders { M.fixed memory.new ≡ M.fixed memory.old }
 {
     let unit = offer(memory, bank, channel, addressing, address)?;
     at_port(bank.take(channel), channel, address)?;
@@ -165,7 +165,7 @@ fn load<M: Memory>(
     addressing: Addressing,
     address: u32,
 ) -> Result<u16, Fault>
-    ensures { result ≡ and_then (presence (kind_at memory.now) channel addressing address) (Ok (read_unit addressing (byte_at memory.now) address)) }
+    ensures { result ≡ and_then (presence (M.kind_at memory.now) channel addressing address) (Ok (read_unit addressing (M.byte_at memory.now) address)) }
 {
     check_present(memory, channel, addressing, address)?;
     let low = at_memory(memory.read(address), channel, address)?;
@@ -187,7 +187,7 @@ fn carry_out<M: Memory, B: PortBank>(
     addressing: Addressing,
     address: u32,
 ) -> Result<u16, Fault>
-    ensures { Does (give_out (outside (kind_at memory.now) (byte_at memory.now) (waiting bank.old) (kept bank.old) (free bank.old)) channel (wanted (outside (kind_at memory.now) (byte_at memory.now) (waiting bank.old) (kept bank.old) (free bank.old)) channel addressing address)) (outside (kind_at memory.now) (byte_at memory.now) (waiting bank.new) (kept bank.new) (free bank.new)) result }
+    ensures { Does (give_out (outside (M.kind_at memory.now) (M.byte_at memory.now) (B.waiting bank.old) (B.kept bank.old) (B.free bank.old)) channel (wanted (outside (M.kind_at memory.now) (M.byte_at memory.now) (B.waiting bank.old) (B.kept bank.old) (B.free bank.old)) channel addressing address)) (outside (M.kind_at memory.now) (M.byte_at memory.now) (B.waiting bank.new) (B.kept bank.new) (B.free bank.new)) result }
 {
     let unit = load(memory, channel, addressing, address)?;
     at_port(bank.give(channel, unit), channel, address)?;
@@ -203,8 +203,8 @@ pub(crate) fn carry<M: Memory, B: PortBank>(
     addressing: Addressing,
     address: u32,
 ) -> Result<u16, Fault>
-    ensures does { Does (carried transfer (outside (kind_at memory.old) (byte_at memory.old) (waiting bank.old) (kept bank.old) (free bank.old)) channel addressing address) (outside (kind_at memory.new) (byte_at memory.new) (waiting bank.new) (kept bank.new) (free bank.new)) result }
-    ensures lenders { fixed memory.new ≡ fixed memory.old }
+    ensures does { Does (carried transfer (outside (M.kind_at memory.old) (M.byte_at memory.old) (B.waiting bank.old) (B.kept bank.old) (B.free bank.old)) channel addressing address) (outside (M.kind_at memory.new) (M.byte_at memory.new) (B.waiting bank.new) (B.kept bank.new) (B.free bank.new)) result }
+    ensures lenders { M.fixed memory.new ≡ M.fixed memory.old }
 {
     match transfer {
         Transfer::Verify => Ok(0),

@@ -29,7 +29,7 @@ pub struct Fetched {
 
 // The byte at a place of the table; absent, the fault names that place.
 fn read_byte<M: Memory>(memory: &M, channel: u8, place: u32) -> Result<u8, Fault>
-    ensures { result ≡ fetched_byte (kind_at memory.now) (byte_at memory.now) channel place }
+    ensures { result ≡ fetched_byte (M.kind_at memory.now) (M.byte_at memory.now) channel place }
 {
     match memory.read(place) {
         Ok(value) => Ok(value),
@@ -43,7 +43,7 @@ fn read_byte<M: Memory>(memory: &M, channel: u8, place: u32) -> Result<u8, Fault
 
 // A word, lowest byte first.
 fn read_word<M: Memory>(memory: &M, channel: u8, start: u32) -> Result<Word, Fault>
-    ensures { result ≡ fetched_word (kind_at memory.now) (byte_at memory.now) channel start }
+    ensures { result ≡ fetched_word (M.kind_at memory.now) (M.byte_at memory.now) channel start }
 {
     let mut place = start;
     let a = read_byte(memory, channel, place)?;
@@ -62,7 +62,7 @@ fn read_word<M: Memory>(memory: &M, channel: u8, start: u32) -> Result<Word, Fau
 
 // The entry at a place: an address, then a count and the end mark.
 fn read_entry<M: Memory>(memory: &M, channel: u8, start: u32) -> Result<Fetched, Fault>
-    ensures { result ≡ entry_at (kind_at memory.now) (byte_at memory.now) channel start }
+    ensures { result ≡ entry_at (M.kind_at memory.now) (M.byte_at memory.now) channel start }
 {
     let address = read_word(memory, channel, start)?;
     let rest = read_word(memory, channel, address.next)?;
@@ -79,7 +79,7 @@ fn read_entry<M: Memory>(memory: &M, channel: u8, start: u32) -> Result<Fetched,
 
 // What a list fetches from its next place.
 pub(crate) fn fetch<M: Memory>(memory: &M, channel: u8, list: List) -> Result<Fetched, Fault>
-    ensures { result ≡ fetch_of (kind_at memory.now) (byte_at memory.now) channel list }
+    ensures { result ≡ fetch_of (M.kind_at memory.now) (M.byte_at memory.now) channel list }
 {
     if list.entries >= MOST_ENTRIES {
         return Err(Fault {

@@ -93,10 +93,10 @@ impl Controller {
         memory: &mut M,
         cycle: Cycle,
     ) -> Result<u8, BusRefusal>
-        ensures state { (o : Outside) → o.kinds ≡ kind_at memory.old → o.bytes ≡ byte_at memory.old → state_of self.now (outside (kind_at memory.new) (byte_at memory.new) o.waiting o.kept o.free) ≡ after_cycle grant.now.channel cycle (state_of self.now o) }
-        ensures answer { (o : Outside) → o.kinds ≡ kind_at memory.old → shown_bus result ≡ cycle_number (state_of self.now o) grant.now.channel cycle }
-        ensures value { (o : Outside) → o.kinds ≡ kind_at memory.old → o.bytes ≡ byte_at memory.old → byte_in result ≡ cycle_value (state_of self.now o) grant.now.channel cycle }
-        ensures lenders { fixed memory.new ≡ fixed memory.old }
+        ensures state { (o : Outside) → o.kinds ≡ M.kind_at memory.old → o.bytes ≡ M.byte_at memory.old → state_of self.now (outside (M.kind_at memory.new) (M.byte_at memory.new) o.waiting o.kept o.free) ≡ after_cycle grant.now.channel cycle (state_of self.now o) }
+        ensures answer { (o : Outside) → o.kinds ≡ M.kind_at memory.old → shown_bus result ≡ cycle_number (state_of self.now o) grant.now.channel cycle }
+        ensures value { (o : Outside) → o.kinds ≡ M.kind_at memory.old → o.bytes ≡ M.byte_at memory.old → byte_in result ≡ cycle_value (state_of self.now o) grant.now.channel cycle }
+        ensures lenders { M.fixed memory.new ≡ M.fixed memory.old }
     {
         if !self.holds(grant.channel) {
             return Err(BusRefusal::NotGranted);

@@ -56,8 +56,8 @@ impl Controller {
         memory: &mut M,
         bank: &mut B,
     ) -> Result<Event, Fault>
-        ensures does { Does (transfer_of (state_of self.old (outside (kind_at memory.old) (byte_at memory.old) (waiting bank.old) (kept bank.old) (free bank.old))) c) (state_of self.new (outside (kind_at memory.new) (byte_at memory.new) (waiting bank.new) (kept bank.new) (free bank.new))) result }
-        ensures lenders { fixed memory.new ≡ fixed memory.old }
+        ensures does { Does (transfer_of (state_of self.old (outside (M.kind_at memory.old) (M.byte_at memory.old) (B.waiting bank.old) (B.kept bank.old) (B.free bank.old))) c) (state_of self.new (outside (M.kind_at memory.new) (M.byte_at memory.new) (B.waiting bank.new) (B.kept bank.new) (B.free bank.new))) result }
+        ensures lenders { M.fixed memory.new ≡ M.fixed memory.old }
     {
         let channel = self.registers.channel(c);
         let at = address(channel);
@@ -82,7 +82,7 @@ impl Controller {
 
     // A fetch of a channel's next entry; a fault leaves everything.
     fn fetch_entry<M: Memory>(&mut self, c: u8, memory: &M) -> Result<Event, Fault>
-        ensures { (o : Outside) → o.kinds ≡ kind_at memory.now → o.bytes ≡ byte_at memory.now → Does (fetch_step (state_of self.old o) c) (state_of self.new o) result }
+        ensures { (o : Outside) → o.kinds ≡ M.kind_at memory.now → o.bytes ≡ M.byte_at memory.now → Does (fetch_step (state_of self.old o) c) (state_of self.new o) result }
     {
         let channel = self.registers.channel(c);
         let fetched = fetch(memory, c, channel.list)?;
@@ -100,8 +100,8 @@ impl Controller {
         memory: &mut M,
         bank: &mut B,
     ) -> Result<Event, Fault>
-        ensures does { Does (service_of (state_of self.old (outside (kind_at memory.old) (byte_at memory.old) (waiting bank.old) (kept bank.old) (free bank.old))) c) (state_of self.new (outside (kind_at memory.new) (byte_at memory.new) (waiting bank.new) (kept bank.new) (free bank.new))) result }
-        ensures lenders { fixed memory.new ≡ fixed memory.old }
+        ensures does { Does (service_of (state_of self.old (outside (M.kind_at memory.old) (M.byte_at memory.old) (B.waiting bank.old) (B.kept bank.old) (B.free bank.old))) c) (state_of self.new (outside (M.kind_at memory.new) (M.byte_at memory.new) (B.waiting bank.new) (B.kept bank.new) (B.free bank.new))) result }
+        ensures lenders { M.fixed memory.new ≡ M.fixed memory.old }
     {
         let channel = self.registers.channel(c);
         if let Service::Cascade = channel.mode.service {
@@ -133,8 +133,8 @@ impl Controller {
         memory: &mut M,
         bank: &mut B,
     ) -> Result<Event, Fault>
-        ensures does { Does (serve (state_of self.old (outside (kind_at memory.old) (byte_at memory.old) (waiting bank.old) (kept bank.old) (free bank.old))) c) (state_of self.new (outside (kind_at memory.new) (byte_at memory.new) (waiting bank.new) (kept bank.new) (free bank.new))) result }
-        ensures lenders { fixed memory.new ≡ fixed memory.old }
+        ensures does { Does (serve (state_of self.old (outside (M.kind_at memory.old) (M.byte_at memory.old) (B.waiting bank.old) (B.kept bank.old) (B.free bank.old))) c) (state_of self.new (outside (M.kind_at memory.new) (M.byte_at memory.new) (B.waiting bank.new) (B.kept bank.new) (B.free bank.new))) result }
+        ensures lenders { M.fixed memory.new ≡ M.fixed memory.old }
     {
         let outcome = self.work(c, memory, bank);
         self.settle(c, outcome)
@@ -142,7 +142,7 @@ impl Controller {
 
     // Nobody asks: the lowest channel that can fetches ahead.
     fn fetch_ahead<M: Memory>(&mut self, memory: &M) -> Result<Event, Fault>
-        ensures { (o : Outside) → o.kinds ≡ kind_at memory.now → o.bytes ≡ byte_at memory.now → Does (ahead_of (state_of self.old o) (first_fetching self.old.registers)) (state_of self.new o) result }
+        ensures { (o : Outside) → o.kinds ≡ M.kind_at memory.now → o.bytes ≡ M.byte_at memory.now → Does (ahead_of (state_of self.old o) (first_fetching self.old.registers)) (state_of self.new o) result }
     {
         match first_fetching(&self.registers) {
             None => Ok(Event::Idle),
@@ -170,8 +170,8 @@ impl Controller {
         memory: &mut M,
         bank: &mut B,
     ) -> Result<Event, Fault>
-        ensures does { Does (choose_of (state_of self.old (outside (kind_at memory.old) (byte_at memory.old) (waiting bank.old) (kept bank.old) (free bank.old))) (choice_of self.old.registers)) (state_of self.new (outside (kind_at memory.new) (byte_at memory.new) (waiting bank.new) (kept bank.new) (free bank.new))) result }
-        ensures lenders { fixed memory.new ≡ fixed memory.old }
+        ensures does { Does (choose_of (state_of self.old (outside (M.kind_at memory.old) (M.byte_at memory.old) (B.waiting bank.old) (B.kept bank.old) (B.free bank.old))) (choice_of self.old.registers)) (state_of self.new (outside (M.kind_at memory.new) (M.byte_at memory.new) (B.waiting bank.new) (B.kept bank.new) (B.free bank.new))) result }
+        ensures lenders { M.fixed memory.new ≡ M.fixed memory.old }
     {
         match choose(&self.registers) {
             Some(choice) => {
@@ -201,8 +201,8 @@ impl Controller {
         memory: &mut M,
         bank: &mut B,
     ) -> Result<Event, Fault>
-        ensures does { Does (step_of (state_of self.old (outside (kind_at memory.old) (byte_at memory.old) (waiting bank.old) (kept bank.old) (free bank.old)))) (state_of self.new (outside (kind_at memory.new) (byte_at memory.new) (waiting bank.new) (kept bank.new) (free bank.new))) result }
-        ensures lenders { fixed memory.new ≡ fixed memory.old }
+        ensures does { Does (step_of (state_of self.old (outside (M.kind_at memory.old) (M.byte_at memory.old) (B.waiting bank.old) (B.kept bank.old) (B.free bank.old)))) (state_of self.new (outside (M.kind_at memory.new) (M.byte_at memory.new) (B.waiting bank.new) (B.kept bank.new) (B.free bank.new))) result }
+        ensures lenders { M.fixed memory.new ≡ M.fixed memory.old }
     {
         if let Bus::Home = self.bus {
             match self.ongoing() {

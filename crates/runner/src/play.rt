@@ -28,10 +28,10 @@ fn put_number(answer: Result<(), MemoryFault>) -> u8
 
 /// PUT: eight bytes into memory, all or none.
 fn put_bytes<M: Memory>(address: u32, bytes: [u8; 8], memory: &mut M) -> Answer
-    ensures answer { result ≡ answer.Put (put_shown (put_of (kind_at memory.old) address)) }
-    ensures kinds { kind_at memory.new ≡ kind_at memory.old }
-    ensures bytes { byte_at memory.new ≡ put_bytes (kind_at memory.old) (byte_at memory.old) address bytes }
-    ensures stays { fixed memory.new ≡ fixed memory.old }
+    ensures answer { result ≡ answer.Put (put_shown (put_of (M.kind_at memory.old) address)) }
+    ensures kinds { M.kind_at memory.new ≡ M.kind_at memory.old }
+    ensures bytes { M.byte_at memory.new ≡ put_bytes (M.kind_at memory.old) (M.byte_at memory.old) address bytes }
+    ensures stays { M.fixed memory.new ≡ M.fixed memory.old }
 {
     let refusal = put_number(put(memory, address, bytes));
     Answer::Put { refusal }
@@ -46,7 +46,7 @@ impl Desk<'_> {
         bank: &mut B,
     ) -> Answer
         ensures does { Does (played (order_of command.entry) (run_at self.old (world_of M.Memory B.PortBank memory.old bank.old))) (run_at self.new (world_of M.Memory B.PortBank memory.new bank.new)) result }
-        ensures stays { fixed memory.new ≡ fixed memory.old }
+        ensures stays { M.fixed memory.new ≡ M.fixed memory.old }
     {
         match command {
             Command::Out { port, value } => self.out(port, value),
@@ -67,7 +67,7 @@ impl Desk<'_> {
         out: &mut [u8],
     ) -> Result<usize, ScriptFault>
         ensures does { Does (turn_of (order_of command.entry) out.old (run_at self.old (world_of M.Memory B.PortBank memory.old bank.old))) (run_at self.new (world_of M.Memory B.PortBank memory.new bank.new), out.new) (numbered result) }
-        ensures stays { fixed memory.new ≡ fixed memory.old }
+        ensures stays { M.fixed memory.new ≡ M.fixed memory.old }
     {
         if out.len() < answer_size(command) {
             return Err(ScriptFault::NoPlace);

@@ -31,7 +31,7 @@ pub fn run<M: Memory, B: PortBank>(
 ) -> Outcome
     ensures answers { Answered (run_of script.now (length output.old) (opened 64 (world_of M.Memory B.PortBank memory.old bank.old))) output.old result.refusal result.length output.new }
     ensures world { world_of M.Memory B.PortBank memory.new bank.new ≡ (run_of script.now (length output.old) (opened 64 (world_of M.Memory B.PortBank memory.old bank.old))).run.state.world }
-    ensures stays { fixed memory.new ≡ fixed memory.old }
+    ensures stays { M.fixed memory.new ≡ M.fixed memory.old }
 {
     let mut cells = [Notice::blank(); NOTICES];
     let mut desk = Desk::new(&mut cells);

@@ -33,7 +33,7 @@ impl Desk<'_> {
     fn step_once<M: Memory, B: PortBank>(&mut self, memory: &mut M, bank: &mut B) -> bool
         requires { 0 < room self.old.notices }
         ensures does { Does (step_once (run_at self.old (world_of M.Memory B.PortBank memory.old bank.old))) (run_at self.new (world_of M.Memory B.PortBank memory.new bank.new)) result }
-        ensures stays { fixed memory.new ≡ fixed memory.old }
+        ensures stays { M.fixed memory.new ≡ M.fixed memory.old }
     {
         let outcome = self.controller.step(memory, bank);
         self.note(outcome);
@@ -48,7 +48,7 @@ impl Desk<'_> {
         bank: &mut B,
     ) -> Answer
         ensures does { Does (played (order.Step count) (run_at self.old (world_of M.Memory B.PortBank memory.old bank.old))) (run_at self.new (world_of M.Memory B.PortBank memory.new bank.new)) result }
-        ensures stays { fixed memory.new ≡ fixed memory.old }
+        ensures stays { M.fixed memory.new ≡ M.fixed memory.old }
     {
         let mut steps = 0;
         let mut transfers = 0;

@@ -25,12 +25,12 @@ pub fn play<M: Memory, B: PortBank>(
     answers: &mut [Answer],
 ) -> Played
     ensures count { result.count ≡ min (length calls.now) (length answers.old) }
-    ensures answered { take result.count answers.new ≡ answers_of (run (fresh (outside (kind_at memory.old) (byte_at memory.old) (waiting bank.old) (kept bank.old) (free bank.old))) (take result.count calls.now)) }
+    ensures answered { take result.count answers.new ≡ answers_of (run (fresh (outside (M.kind_at memory.old) (M.byte_at memory.old) (B.waiting bank.old) (B.kept bank.old) (B.free bank.old))) (take result.count calls.now)) }
     ensures rest { drop result.count answers.new ≡ drop result.count answers.old }
-    ensures state { state_of result.session.controller (outside (kind_at memory.new) (byte_at memory.new) (waiting bank.new) (kept bank.new) (free bank.new)) ≡ ended (fresh (outside (kind_at memory.old) (byte_at memory.old) (waiting bank.old) (kept bank.old) (free bank.old))) (take result.count calls.now) }
-    ensures law { Law (fresh (outside (kind_at memory.old) (byte_at memory.old) (waiting bank.old) (kept bank.old) (free bank.old))) (run (fresh (outside (kind_at memory.old) (byte_at memory.old) (waiting bank.old) (kept bank.old) (free bank.old))) (take result.count calls.now)) (state_of result.session.controller (outside (kind_at memory.new) (byte_at memory.new) (waiting bank.new) (kept bank.new) (free bank.new))) }
+    ensures state { state_of result.session.controller (outside (M.kind_at memory.new) (M.byte_at memory.new) (B.waiting bank.new) (B.kept bank.new) (B.free bank.new)) ≡ ended (fresh (outside (M.kind_at memory.old) (M.byte_at memory.old) (B.waiting bank.old) (B.kept bank.old) (B.free bank.old))) (take result.count calls.now) }
+    ensures law { Law (fresh (outside (M.kind_at memory.old) (M.byte_at memory.old) (B.waiting bank.old) (B.kept bank.old) (B.free bank.old))) (run (fresh (outside (M.kind_at memory.old) (M.byte_at memory.old) (B.waiting bank.old) (B.kept bank.old) (B.free bank.old))) (take result.count calls.now)) (state_of result.session.controller (outside (M.kind_at memory.new) (M.byte_at memory.new) (B.waiting bank.new) (B.kept bank.new) (B.free bank.new))) }
     ensures holding { Holding result.session.grant result.session.controller.bus }
-    ensures lenders { fixed memory.new ≡ fixed memory.old }
+    ensures lenders { M.fixed memory.new ≡ M.fixed memory.old }
 {
     let mut session = Session {
         controller: Controller::new(),

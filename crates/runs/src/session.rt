@@ -117,8 +117,8 @@ impl Session {
     // A cycle under the grant that is held; without one there is no cycle.
     fn cycle<M: Memory>(&self, memory: &mut M, cycle: Cycle) -> Answer
         requires { Holding self.now.grant self.now.controller.bus }
-        ensures does { (o : Outside) → o.kinds ≡ kind_at memory.old → o.bytes ≡ byte_at memory.old → Does (performed (state_of self.now.controller o) (call.Cycle cycle)) (state_of self.now.controller (outside (kind_at memory.new) (byte_at memory.new) o.waiting o.kept o.free)) result }
-        ensures lenders { fixed memory.new ≡ fixed memory.old }
+        ensures does { (o : Outside) → o.kinds ≡ M.kind_at memory.old → o.bytes ≡ M.byte_at memory.old → Does (performed (state_of self.now.controller o) (call.Cycle cycle)) (state_of self.now.controller (outside (M.kind_at memory.new) (M.byte_at memory.new) o.waiting o.kept o.free)) result }
+        ensures lenders { M.fixed memory.new ≡ M.fixed memory.old }
     {
         match &self.grant {
             None => cycle_answer(Err(BusRefusal::NotGranted)),
@@ -168,9 +168,9 @@ impl Session {
         call: Call,
     ) -> Answer
         requires { Holding self.old.grant self.old.controller.bus }
-        ensures does { Does (performed (state_of self.old.controller (outside (kind_at memory.old) (byte_at memory.old) (waiting bank.old) (kept bank.old) (free bank.old))) call) (state_of self.new.controller (outside (kind_at memory.new) (byte_at memory.new) (waiting bank.new) (kept bank.new) (free bank.new))) result }
+        ensures does { Does (performed (state_of self.old.controller (outside (M.kind_at memory.old) (M.byte_at memory.old) (B.waiting bank.old) (B.kept bank.old) (B.free bank.old))) call) (state_of self.new.controller (outside (M.kind_at memory.new) (M.byte_at memory.new) (B.waiting bank.new) (B.kept bank.new) (B.free bank.new))) result }
         ensures holding { Holding self.new.grant self.new.controller.bus }
-        ensures lenders { fixed memory.new ≡ fixed memory.old }
+        ensures lenders { M.fixed memory.new ≡ M.fixed memory.old }
     {
         match call {
             Call::Step => Answer::Step {
