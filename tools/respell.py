@@ -4,7 +4,7 @@
 usage: python3 tools/respell.py [--dry]     at the top of the repository
 
 A name in camel case that is no type becomes snake case: kindAt -> kind_at. In the name of a lemma a dash stays where
-it joins the names of two definitions, and a plain word is added by an underscore. Types, modules, Rust's own names,
+it joins two names, of a word of lists or a definition of specs/ each, and a plain word is added by an underscore. Types, modules, Rust's own names,
 goals and names of the kit keep their spelling. It prints each name that would fall together with another.
 """
 
@@ -16,7 +16,7 @@ import sys
 
 TOKEN = re.compile(r"[^\s(){}\[\],;.:«»⌜⌝⟦⟧\"@|λ×→⊎¬=≡∷≤<+*/&]+")
 DEF = re.compile(r"^(\s*)((?:(?:abbrev|unfoldable|pub|data|record|mutual)\s+)*)([^\s:{(.,;]+)(?=\s*(?:[({].*)?:\s)")
-WORDS = ("length", "take", "drop", "map", "cond", "true", "false", "if", "append", "set", "get_or", "zero", "suc")
+WORDS = ("length", "take", "drop", "get_or", "zero")
 
 # By hand, where the rule would make two names one: (where, the name there) and the new name. The lemma of a definition has its name and `_lem`.
 BY_HAND = {
@@ -34,6 +34,8 @@ BY_HAND = {
     ("runs/proofs/ListJobs", "after-word"): "after_word_lem",
     ("runs/proofs/ListJobs", "after-entry"): "after_entry_lem",
     ("runs/proofs/Sound", "first-or"): "first_or_fetching",
+    ("script/proofs/", "first-four"): "first_four_lem",
+    ("arbiter/proofs/Winners", "outer-asks"): "outer_asks_lem",
     ("arbiter/proofs/", "bit-0-put"): "bit_zero_put",
     ("", "getD-plan"): "get_or-plan",
     ("", "getD-numbers"): "get_or-numbers",
@@ -71,7 +73,7 @@ def definitions():
             if line.startswith(("use ", "mod ", "pub use ", "pub mod ", "--", "open ")):
                 continue
             m = DEF.match(line)
-            if not m or (m.group(1) and "pub" not in m.group(2)):
+            if not m:
                 continue
             if goals and ": goal." in line:
                 continue
@@ -85,7 +87,8 @@ def definitions():
 def main():
     dry = "--dry" in sys.argv
     found = definitions()
-    plain = {snake(n) for n in found if "-" not in n} | set(WORDS)
+    top = re.compile(r"^(?:abbrev |unfoldable )?pub ([a-z]\S*) :", re.M)
+    plain = {snake(n) for p in files("crates/*/specs/*.antt") for n in top.findall(open(p, encoding="utf-8").read())} | set(WORDS)
     turn = {}
     for n in found:
         if not (n[0].islower() and n[0].isascii()):

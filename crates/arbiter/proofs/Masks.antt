@@ -3,7 +3,7 @@ use Rattle.std.proofs.Common.{◌≡◌, ℕ, zero, suc, ◌+◌, ◌*◌, ◌/�
 use lib.Bits.{bit_or, bit_and, and_mask, and_high, or_shifted, or_shifted_r}
 use mir.Val.{bool_byte}
 use Rattle.arbiter.specs.Slots.{asks_in, flag_of, mask_of, first_from, chosen_slot, start_of}
-use Rattle.arbiter.proofs.Chosen.{chosen_none, chosen-same}
+use Rattle.arbiter.proofs.Chosen.{chosen_none, chosen_same}
 
 -- each k below 4
 pub below_four : (P : ℕ → Type 0) → P 0 → P 1 → P 2 → P 3 → (k : ℕ) → k < 4 → P k
@@ -63,7 +63,7 @@ pub masked_some : (m : ℕ) (rotating : Bool) (last s r : ℕ) → s ≡ start_o
     → Some r ≡ chosen_slot (asks_in m) rotating last
 masked_some m rotating last s r e f =
     sym f ∙ ap (first_from 4 (asks_in (bit_and m 15))) e
-    ∙ chosen-same (asks_in (bit_and m 15)) (asks_in m) (λ k h. ap (λ n. asks_in n k) (and_mask m 4) ∙ low_bits m k h) rotating last
+    ∙ chosen_same (asks_in (bit_and m 15)) (asks_in m) (λ k h. ap (λ n. asks_in n k) (and_mask m 4) ∙ low_bits m k h) rotating last
 
 -- the mask of the second group with bit 0 replaced
 pub bit_zero_put : (m : ℕ) (b : Bool) (k : ℕ) → k < 4 → asks_in (bit_or (bit_and m 14) (bool_byte b)) k ≡ cond (eqb k 0) b (asks_in m k)

@@ -32,12 +32,12 @@ module _ (ask : ℕ → Bool) where
   first (suc n) k = at_once n k (ask (k % 4)) refl (first n (k + 1))
 
 -- the search looks at the four slots alone
-pub first-same : (f g : ℕ → Bool) → ((k : ℕ) → k < 4 → f k ≡ g k) → (n k : ℕ) → first_from n f k ≡ first_from n g k
+pub first_same : (f g : ℕ → Bool) → ((k : ℕ) → k < 4 → f k ≡ g k) → (n k : ℕ) → first_from n f k ≡ first_from n g k
 unfolding first_from
-first-same f g h zero k = refl
-first-same f g h (suc n) k =
+first_same f g h zero k = refl
+first_same f g h (suc n) k =
     let e : f (k % 4) ≡ g (k % 4) = h (k % 4) (omega arith) in
-    rw (e, first-same f g h n (k + 1))
+    rw (e, first_same f g h n (k + 1))
 
 -- where nobody asks, nobody is found
 pub first_none : (ask : ℕ → Bool) → ((k : ℕ) → k < 4 → ask k ≡ false) → (n k : ℕ) → first_from n ask k ≡ None

@@ -35,8 +35,8 @@ some_of : (o : Option ℕ) (r : ℕ) → r ≡ unwrap_or o 4 → r < 4 → o ≡
 some_of None r e h = absurd (omega arith)
 some_of (Some d) r e h = ap Some (sym e)
 
-pub turned-first : (m s : ℕ) → 0 < m → m < 16 → s < 4
+pub turned_first : (m s : ℕ) → 0 < m → m < 16 → s < 4
     → first_from 4 (asks_in m) s ≡ Some ((count_trailing_zeros 8 (bit_and (bit_or (m / 2 ^ s) (m * 2 ^ (4 - s) % 256)) 15) + s) % 4)
-turned-first m s i j k =
+turned_first m s i j k =
     let e : m - 1 + 1 ≡ m = omega arith in
     some_of (first_from 4 (asks_in m) s) (turned_slot m s) (rw e at (agree (m - 1) (omega arith) s k)) (omega arith)

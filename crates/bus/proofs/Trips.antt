@@ -17,8 +17,8 @@ address_of_place Words x old h e =
     let b : x / 2 % 65536 + 65536 * (x / 131072) ≡ x / 2 = omega (arith, shr-shr x 1 16) in
     rw (l, t) (omega arith)
 
-pub address-back : (m : Addressing) (x old : ℕ) (p : Place) → p ≡ place_at m x old → x < 4294967296 → x % unit_of m ≡ 0 → address_of m p ≡ x
-address-back m x old p e h u = rw e (address_of_place m x old h u)
+pub address_back : (m : Addressing) (x old : ℕ) (p : Place) → p ≡ place_at m x old → x < 4294967296 → x % unit_of m ≡ 0 → address_of m p ≡ x
+address_back m x old p e h u = rw e (address_of_place m x old h u)
 
 -- so do the registers, bit 0 of a shifted low page included
 pub place_of_address : (m : Addressing) (p : Place) → Sized p → place_at m (address_of m p) p.low ≡ p
@@ -39,10 +39,10 @@ place_of_address Words p s =
     rw (a, l, h)
 
 -- the address of a place fits the bus, and the registers of an address their widths
-pub address-fits : (m : Addressing) (p : Place) → Sized p → address_of m p < 4294967296
-address-fits Bytes p s = omega arith
-address-fits Words p s = omega arith
+pub address_fits : (m : Addressing) (p : Place) → Sized p → address_of m p < 4294967296
+address_fits Bytes p s = omega arith
+address_fits Words p s = omega arith
 
-pub place-sized : (m : Addressing) (x old : ℕ) → Sized (place_at m x old)
-place-sized Bytes x old = (omega arith, omega arith, omega arith)
-place-sized Words x old = (omega arith, omega arith, omega arith)
+pub place_sized : (m : Addressing) (x old : ℕ) → Sized (place_at m x old)
+place_sized Bytes x old = (omega arith, omega arith, omega arith)
+place_sized Words x old = (omega arith, omega arith, omega arith)

@@ -23,8 +23,8 @@ bytes_back base n xs f e h =
     listed f base xs (λ k l. ap (λ g. g (base + k)) (sym e) ∙ byte_at_lem base xs k) ∙ ap (list_from f base) h
 
 -- what came back from a block that stands where it stood: x, the lender's bytes now, are what the block's memory shows
-pub came-back : {x : List ℕ} (base n : ℕ) (before after : Block) (f : ℕ → ℕ)
+pub came_back : {x : List ℕ} (base n : ℕ) (before after : Block) (f : ℕ → ℕ)
     → x ≡ after.bytes.now → length x ≡ n → before.base ≡ base → block_fixed after ≡ block_fixed before → block_byte after ≡ f → x ≡ list_from f base n
-came-back {x} base n before after f e l z fixed shows =
+came_back {x} base n before after f e l z fixed shows =
     let there : after.base ≡ base = cc in
     e ∙ bytes_back base n after.bytes.now f (ap (λ b. byte_from b after.bytes.now) (sym there) ∙ shows) (ap length (sym e) ∙ l)

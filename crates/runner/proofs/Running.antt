@@ -73,8 +73,8 @@ module _ {script : List ℕ} {first : Run} {block rest : List ℕ} {here : Run} 
   left_is : take (length out - size) (drop size out) ≡ drop size block
   left_is = take_rest out size ∙ so.others
 
-  left-size : length (take (length out - size) (drop size out)) ≡ length block - size
-  left-size = ap length left_is ∙ length-drop size block
+  left_size : length (take (length out - size) (drop size out)) ≡ length block - size
+  left_size = ap length left_is ∙ length-drop size block
 
   taken : length (take size out) ≡ size
   taken = length-take-le size out (omega (arith, so.within, so.long))
@@ -116,7 +116,7 @@ module _ {script : List ℕ} {first : Run} {block rest : List ℕ} {here : Run} 
       running_more {k} does =
           let bytes = answer_bytes (played order here).1 in
           let known = size_ok (take (length out - size) (drop size out)) bytes k does.answer in
-          let place : length bytes ≤ length block - size = rw left-size at known.0 in
+          let place : length bytes ≤ length block - size = rw left_size at known.0 in
           let moved : (played order here).0 ≡ next = sym (ap (λ p. p.0) does.state ∙ cond-false _ _ _ (le-ltb _ _ known.0)) in
           let written : part ≡ bytes ++ drop (size + k) block =
           ap (λ p. p.1) does.state
@@ -150,12 +150,12 @@ module _ {script : List ℕ} {first : Run} {block rest : List ℕ} {here : Run} 
           }
 
       -- it finds none
-      pub running-full : {number k : ℕ} → number ≡ k → Does (turn_of order (take (length out - size) (drop size out)) here) (next, part) (Err k)
+      pub running_full : {number k : ℕ} → number ≡ k → Does (turn_of order (take (length out - size) (drop size out)) here) (next, part) (Err k)
           → Answered (run_of script (length block) first) block number size (put_mid size (length out - size) out part) × (next.state.world ≡ (run_of script (length block) first).run.state.world)
-      running-full {number} {k} same_number does =
+      running_full {number} {k} same_number does =
           let bytes = answer_bytes (played order here).1 in
           let known = size_refused (take (length out - size) (drop size out)) bytes k does.answer in
-          let full : length block - size < length bytes = rw left-size at known.0 in
+          let full : length block - size < length bytes = rw left_size at known.0 in
           let stood : next ≡ here = ap (λ p. p.0) does.state ∙ cond-true _ _ _ (lt-ltb _ _ known.0) in
           let same : put_mid size (length out - size) out part ≡ out =
           part_is size out part

@@ -15,9 +15,9 @@ use Rattle.runner.specs.declared.desk.Desk.{Desk}
 use Rattle.runner.specs.Plays.{Run, run_at, is_full, step_once, no_steps, after, one, steps_of, played}
 
 -- no cell is free
-pub full-room : (d : Desk) (o : Outside) → is_full (run_at d o) ≡ eqb (room d.notices) 0
+pub full_room : (d : Desk) (o : Outside) → is_full (run_at d o) ≡ eqb (room d.notices) 0
 unfolding room
-full-room d o = refl
+full_room d o = refl
 
 -- one step, with its notice last
 pub once : (r : Run) (s t : State) (e : Result Event Fault) (ns : List Notice) (n : ℕ) (moved : Bool) → Does (step_of r.state) s e → t ≡ s
@@ -36,14 +36,14 @@ steps_none : (r : Run) → steps_of 0 r ≡ no_steps r
 unfolding steps_of
 steps_none r = refl
 
-steps-full : (n : ℕ) (r : Run) → is_full r ≡ true → steps_of n r ≡ no_steps r
+steps_full : (n : ℕ) (r : Run) → is_full r ≡ true → steps_of n r ≡ no_steps r
 unfolding steps_of
-steps-full zero r full = refl
-steps-full (suc n) r full = cond-true _ _ _ full
+steps_full zero r full = refl
+steps_full (suc n) r full = cond-true _ _ _ full
 
-steps-one : (n m : ℕ) (r : Run) → n ≡ suc m → is_full r ≡ false → steps_of n r ≡ after 1 (one (step_once r).1) (steps_of m (step_once r).0)
+steps_one : (n m : ℕ) (r : Run) → n ≡ suc m → is_full r ≡ false → steps_of n r ≡ after 1 (one (step_once r).1) (steps_of m (step_once r).0)
 unfolding steps_of
-steps-one n m r e free = ap (λ k. steps_of k r) e ∙ cond-false _ _ _ free
+steps_one n m r e free = ap (λ k. steps_of k r) e ∙ cond-false _ _ _ free
 
 -- some steps of a row are done, and the others go on from where they led
 pub record Stepping (count : ℕ) (first here : Run) (steps transfers : ℕ) : Type 0 where
@@ -77,7 +77,7 @@ module _ {count : ℕ} {first here : Run} {steps transfers : ℕ} (so : Stepping
       record {
         row = so.row
             ∙ ap (after steps transfers)
-            (steps-one (count - steps) (count - (steps + 1)) here left free
+            (steps_one (count - steps) (count - (steps + 1)) here left free
             ∙ (λ i. after 1 (one (sym does.answer i)) (steps_of (count - (steps + 1)) (sym does.state i))))
             ∙ (λ i. record { run = rest.run; steps = n i; transfers = m i });
         within = omega arith;
@@ -94,7 +94,7 @@ module _ {count : ℕ} {first here : Run} {steps transfers : ℕ} (so : Stepping
       record { state = ap (λ s. s.run) (sym all); answer = ap (λ s. answer.Step s.steps s.transfers) (sym all) }
 
   pub stepping_full : is_full here ≡ true → Does (played (Step count) first) here (answer.Step steps transfers)
-  stepping_full full = ends (steps-full (count - steps) here full)
+  stepping_full full = ends (steps_full (count - steps) here full)
 
   pub stepping_done : count ≤ steps → Does (played (Step count) first) here (answer.Step steps transfers)
   stepping_done done =

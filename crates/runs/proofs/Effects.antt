@@ -16,7 +16,7 @@ use Rattle.controller.specs.Carrying.{carried}
 use Rattle.controller.specs.Fetching.{fetch_of, filled}
 use Rattle.controller.specs.Steps.{State, moves, fills, lends, fetch_step, transfer_of, service_of, settled, serve, failed, with_registers}
 use Rattle.runs.specs.Words.{Move, moved_by, of_channel, fetched_by}
-use Rattle.runs.proofs.Slots.{Four, channel_with, channel-same, channel_other, four_with}
+use Rattle.runs.proofs.Slots.{Four, channel_with, channel_same, channel_other, four_with}
 use Rattle.runs.proofs.Parts.{Part, part_of}
 
 -- a channel that can transfer: its list, if it is active, has a current entry
@@ -40,36 +40,36 @@ pub data Stepped (c : ℕ) (ch : Channel) (o : Outside) (p : State × Result Eve
 
 module _ (c : ℕ) (hc : c < 8) where
   -- its own fault leaves its part
-  fault-rests : (s t : State) (e : Fault) → Four t.registers → part_of (channel_of t.registers c) ≡ part_of (channel_of s.registers c)
+  fault_rests : (s t : State) (e : Fault) → Four t.registers → part_of (channel_of t.registers c) ≡ part_of (channel_of s.registers c)
       → Stepped c (channel_of s.registers c) s.world (failed c t, Err e)
-  fault-rests s t e f h = rests refl refl (ap part_of (channel-same t.registers c _ f hc) ∙ h)
+  fault_rests s t e f h = rests refl refl (ap part_of (channel_same t.registers c _ f hc) ∙ h)
 
-  own-moves : (s : State) (p : Outside × Result ℕ Fault) → Four s.registers → Ready (channel_of s.registers c) → Stepped c (channel_of s.registers c) s.world (settled c (moves s c p))
-  own-moves s (o, Ok u) f r =
+  own_moves : (s : State) (p : Outside × Result ℕ Fault) → Four s.registers → Ready (channel_of s.registers c) → Stepped c (channel_of s.registers c) s.world (settled c (moves s c p))
+  own_moves s (o, Ok u) f r =
       let e : eqb c c ≡ true = grind arith in
       goes (record { channel = c; address = passes (channel_of s.registers c); unit = u; signal = (passed (channel_of s.registers c)).signal })
-      (rw e) refl refl refl (channel-same s.registers c _ f hc) r
-  own-moves s (o, Err e) f r = fault-rests s _ e f refl
+      (rw e) refl refl refl (channel_same s.registers c _ f hc) r
+  own_moves s (o, Err e) f r = fault_rests s _ e f refl
 
-  own-fills : (s : State) (r : Result Found Fault) → fetch_of s.world.kinds s.world.bytes c (channel_of s.registers c).list ≡ r
+  own_fills : (s : State) (r : Result Found Fault) → fetch_of s.world.kinds s.world.bytes c (channel_of s.registers c).list ≡ r
       → Four s.registers → CanFetch (channel_of s.registers c) → Stepped c (channel_of s.registers c) s.world (settled c (fills s c r))
-  own-fills s (Ok x) q f can =
+  own_fills s (Ok x) q f can =
       let e : eqb c c ≡ true = grind arith in
-      gets x refl (rw e) q (channel-same s.registers c _ f hc) can refl
-  own-fills s (Err e) q f can = fault-rests s s e f refl
+      gets x refl (rw e) q (channel_same s.registers c _ f hc) can refl
+  own_fills s (Err e) q f can = fault_rests s s e f refl
 
-  other-moves : (s : State) (d : ℕ) (p : Outside × Result ℕ Fault) → Four s.registers → d < 8 → eqb c d ≡ false → Stepped c (channel_of s.registers c) s.world (settled d (moves s d p))
-  other-moves s d (o, Ok u) f hd q = rests (rw q) refl (ap part_of (channel_other s.registers c d _ f hc hd q))
-  other-moves s d (o, Err e) f hd q = rests refl refl (ap part_of (channel_other s.registers c d _ f hc hd q))
+  other_moves : (s : State) (d : ℕ) (p : Outside × Result ℕ Fault) → Four s.registers → d < 8 → eqb c d ≡ false → Stepped c (channel_of s.registers c) s.world (settled d (moves s d p))
+  other_moves s d (o, Ok u) f hd q = rests (rw q) refl (ap part_of (channel_other s.registers c d _ f hc hd q))
+  other_moves s d (o, Err e) f hd q = rests refl refl (ap part_of (channel_other s.registers c d _ f hc hd q))
 
-  other-fills : (s : State) (d : ℕ) (r : Result Found Fault) → Four s.registers → d < 8 → eqb c d ≡ false → Stepped c (channel_of s.registers c) s.world (settled d (fills s d r))
-  other-fills s d (Ok x) f hd q = rests refl (rw q) (ap part_of (channel_other s.registers c d _ f hc hd q))
-  other-fills s d (Err e) f hd q = rests refl refl (ap part_of (channel_other s.registers c d _ f hc hd q))
+  other_fills : (s : State) (d : ℕ) (r : Result Found Fault) → Four s.registers → d < 8 → eqb c d ≡ false → Stepped c (channel_of s.registers c) s.world (settled d (fills s d r))
+  other_fills s d (Ok x) f hd q = rests refl (rw q) (ap part_of (channel_other s.registers c d _ f hc hd q))
+  other_fills s d (Err e) f hd q = rests refl refl (ap part_of (channel_other s.registers c d _ f hc hd q))
 
-  ready-or : (ch : Channel) (a l : Bool) → ch.list.active ≡ a → ch.list.loaded ≡ l → (a && not l) ≡ false → Ready ch
-  ready-or ch true true p q e = λ _. q
-  ready-or ch true false p q e = let no_way : ⊥ = (let n : ◌≡◌ {A = ℕ} 0 1 = cc in omega arith) in absurd no_way
-  ready-or ch false l p q e = λ h. (let no_way : ⊥ = (let z : true ≡ false = sym h ∙ p in let n : ◌≡◌ {A = ℕ} 0 1 = cc in omega arith) in absurd no_way)
+  ready_or : (ch : Channel) (a l : Bool) → ch.list.active ≡ a → ch.list.loaded ≡ l → (a && not l) ≡ false → Ready ch
+  ready_or ch true true p q e = λ _. q
+  ready_or ch true false p q e = let no_way : ⊥ = (let n : ◌≡◌ {A = ℕ} 0 1 = cc in omega arith) in absurd no_way
+  ready_or ch false l p q e = λ h. (let no_way : ⊥ = (let z : true ≡ false = sym h ∙ p in let n : ◌≡◌ {A = ℕ} 0 1 = cc in omega arith) in absurd no_way)
 
   unloaded : (ch : Channel) (a l : Bool) → ch.list.active ≡ a → ch.list.loaded ≡ l → (a && not l) ≡ true → CanFetch ch
   unloaded ch true false p q e = (p, inl q)
@@ -77,27 +77,27 @@ module _ (c : ℕ) (hc : c < 8) where
   unloaded ch false l p q e = let no_way : ⊥ = (let n : ◌≡◌ {A = ℕ} 0 1 = cc in omega arith) in absurd no_way
 
   -- a channel in service, c itself or another
-  own-serve : (s : State) (p q : Bool) → ((channel_of s.registers c).list.active && not (channel_of s.registers c).list.loaded) ≡ q → Four s.registers
+  own_serve : (s : State) (p q : Bool) → ((channel_of s.registers c).list.active && not (channel_of s.registers c).list.loaded) ≡ q → Four s.registers
       → Stepped c (channel_of s.registers c) s.world (settled c (cond p (lends s c) (cond q (fetch_step s c) (transfer_of s c))))
-  own-serve s true q e f = rests refl refl refl
-  own-serve s false true e f = own-fills s _ refl f (unloaded (channel_of s.registers c) _ _ refl refl e)
-  own-serve s false false e f = own-moves s _ f (ready-or (channel_of s.registers c) _ _ refl refl e)
+  own_serve s true q e f = rests refl refl refl
+  own_serve s false true e f = own_fills s _ refl f (unloaded (channel_of s.registers c) _ _ refl refl e)
+  own_serve s false false e f = own_moves s _ f (ready_or (channel_of s.registers c) _ _ refl refl e)
 
-  other-serve : (s : State) (d : ℕ) (p q : Bool) → Four s.registers → d < 8 → eqb c d ≡ false
+  other_serve : (s : State) (d : ℕ) (p q : Bool) → Four s.registers → d < 8 → eqb c d ≡ false
       → Stepped c (channel_of s.registers c) s.world (settled d (cond p (lends s d) (cond q (fetch_step s d) (transfer_of s d))))
-  other-serve s d true q f hd e = rests refl refl refl
-  other-serve s d false true f hd e = other-fills s d _ f hd e
-  other-serve s d false false f hd e = other-moves s d _ f hd e
+  other_serve s d true q f hd e = rests refl refl refl
+  other_serve s d false true f hd e = other_fills s d _ f hd e
+  other_serve s d false false f hd e = other_moves s d _ f hd e
 
-  pub serve-steps : (s : State) (d : ℕ) → Four s.registers → d < 8 → Stepped c (channel_of s.registers c) s.world (serve s d)
-  serve-steps s d f hd = go (eqb c d) refl
+  pub serve_steps : (s : State) (d : ℕ) → Four s.registers → d < 8 → Stepped c (channel_of s.registers c) s.world (serve s d)
+  serve_steps s d f hd = go (eqb c d) refl
     where
       go : (q : Bool) → eqb c d ≡ q → Stepped c (channel_of s.registers c) s.world (serve s d)
       go true q =
           let same : c ≡ d = grind arith in
           let P : ℕ → Type 0 = λ x. Stepped c (channel_of s.registers c) s.world (serve s x) in
-          subst P same (own-serve s (is_cascade (channel_of s.registers c).mode.service) _ refl f)
-      go false q = other-serve s d (is_cascade (channel_of s.registers d).mode.service) ((channel_of s.registers d).list.active && not (channel_of s.registers d).list.loaded) f hd q
+          subst P same (own_serve s (is_cascade (channel_of s.registers c).mode.service) _ refl f)
+      go false q = other_serve s d (is_cascade (channel_of s.registers d).mode.service) ((channel_of s.registers d).list.active && not (channel_of s.registers d).list.loaded) f hd q
 
   pub ahead_steps : (s : State) (d : ℕ) → Four s.registers → d < 8 → fetches s.registers d ≡ true → Stepped c (channel_of s.registers c) s.world (settled d (fetch_step s d))
   ahead_steps s d f hd g = go (eqb c d) refl
@@ -109,5 +109,5 @@ module _ (c : ℕ) (hc : c < 8) where
       go true q =
           let same : c ≡ d = grind arith in
           let P : ℕ → Type 0 = λ x. fetches s.registers x ≡ true → Stepped c (channel_of s.registers c) s.world (settled x (fetch_step s x)) in
-          subst P same (λ e. own-fills s _ refl f (can (channel_of s.registers c) e)) g
-      go false q = other-fills s d _ f hd q
+          subst P same (λ e. own_fills s _ refl f (can (channel_of s.registers c) e)) g
+      go false q = other_fills s d _ f hd q

@@ -5,7 +5,7 @@ use Rattle.bus.specs.declared.place.Course.{Course}
 use Rattle.bus.specs.declared.place.Place.{Place}
 use Rattle.bus.specs.Address.{moved_place}
 use Rattle.bus.specs.Plan.{planned, plan}
-use Rattle.bus.proofs.Plans.{plan-next}
+use Rattle.bus.proofs.Plans.{plan_next}
 use Rattle.registers.specs.declared.channel.Channel.{Channel}
 use Rattle.registers.specs.declared.list.List.{List as Chain}
 use Rattle.registers.specs.declared.list.Entry.{Entry as Buffer}
@@ -21,8 +21,8 @@ use Rattle.runs.specs.Words.{entries_from, ends_by_eol, places}
 use Rattle.runs.proofs.Parts.{Part, part_of}
 use Rattle.runs.proofs.Written.{with_stop}
 use Rattle.runs.proofs.Effects.{CanFetch}
-use Rattle.runs.proofs.Tables.{Agree, same_entries, fetched_is, entry_in, entries-more, after_entry, Readable}
-use Rattle.runs.proofs.Lists.{list_course, buffer_plan, along, current_plan, reserve_plan, loaded_plan, is_closed, unfetched, Running, never, own_course, part_with, part_holding, part_mid, part_next, part_empty, signal_mid, signal-next, signal_empty}
+use Rattle.runs.proofs.Tables.{Agree, same_entries, fetched_is, entry_in, entries_more, after_entry, Readable}
+use Rattle.runs.proofs.Lists.{list_course, buffer_plan, along, current_plan, reserve_plan, loaded_plan, is_closed, unfetched, Running, never, own_course, part_with, part_holding, part_mid, part_next, part_empty, signal_mid, signal_next, signal_empty}
 
 -- what a transfer that does not signal leaves
 pub record Went (l : Course) (p p' : Part) : Type 0 where
@@ -33,14 +33,14 @@ pub record Went (l : Course) (p p' : Part) : Type 0 where
   pub closing : is_closed p' ≡ is_closed p
 
 module _ (l : Course) (ch : Channel) (r : Running l (part_of ch)) (ld : ch.list.loaded ≡ true) where
-  now-course : course_of ch ≡ l
-  now-course = own_course l ch r ld
+  now_course : course_of ch ≡ l
+  now_course = own_course l ch r ld
 
   first_of : (n : ℕ) → plan l ch.current.place (suc n) ≡ planned l ch.current.place 0 ∷ plan l (moved_place (course_of ch) ch.current.place) n
-  first_of n = plan-next l ch.current.place n ∙ ap (λ c. planned l ch.current.place 0 ∷ plan l (moved_place c ch.current.place) n) (sym now-course)
+  first_of n = plan_next l ch.current.place n ∙ ap (λ c. planned l ch.current.place 0 ∷ plan l (moved_place c ch.current.place) n) (sym now_course)
 
-  went-mid : eqb ch.current.count 0 ≡ false → Went l (part_of ch) (part_with (stepped ch) (part_of ch))
-  went-mid z = record {
+  went_mid : eqb ch.current.count 0 ≡ false → Went l (part_of ch) (part_with (stepped ch) (part_of ch))
+  went_mid z = record {
     running = record { active = r.active; course = r.course; extended = r.extended; kept = r.kept; open_list = r.open_list };
     taken =
         let n : suc (less_one ch.current.count) ≡ ch.current.count = (rw z (grind arith)) in
@@ -53,49 +53,49 @@ module _ (l : Course) (ch : Channel) (r : Running l (part_of ch)) (ld : ch.list.
     closing = refl;
   }
 
-  zero-count : eqb ch.current.count 0 ≡ true → current_plan l (part_of ch) ≡ planned l ch.current.place 0 ∷ []
-  zero-count z =
+  zero_count : eqb ch.current.count 0 ≡ true → current_plan l (part_of ch) ≡ planned l ch.current.place 0 ∷ []
+  zero_count z =
       let n : ch.current.count ≡ 0 = grind arith in
       let here : current_plan l (part_of ch) ≡ plan l ch.current.place (suc ch.current.count) = rw ld in
       here ∙ ap (λ x. plan l ch.current.place (suc x)) n
 
-  went-next : (e : Buffer) → eqb ch.current.count 0 ≡ true → ch.list.reserve ≡ Some e → Went l (part_of ch) (part_holding (entry_span e) true true (part_of ch))
-  went-next e z re = record {
+  went_next : (e : Buffer) → eqb ch.current.count 0 ≡ true → ch.list.reserve ≡ Some e → Went l (part_of ch) (part_holding (entry_span e) true true (part_of ch))
+  went_next e z re = record {
     running = record { active = r.active; course = r.course; extended = λ _. refl; kept = λ _. refl; open_list = λ q. absurd (never q) };
-    taken = ap₂ ◌++◌ (zero-count z) (ap (reserve_plan l) re) ∙ ap (λ x. planned l ch.current.place 0 ∷ x) (sym (append-nil (buffer_plan l e)));
+    taken = ap₂ ◌++◌ (zero_count z) (ap (reserve_plan l) re) ∙ ap (λ x. planned l ch.current.place 0 ∷ x) (sym (append-nil (buffer_plan l e)));
     fetching = λ o. refl;
     place = refl;
     closing = refl;
   }
 
-  went-empty : eqb ch.current.count 0 ≡ true → ch.list.reserve ≡ None → closed ch.list ≡ false → Went l (part_of ch) (part_holding (stepped ch) ch.extended false (part_of ch))
-  went-empty z re q = record {
+  went_empty : eqb ch.current.count 0 ≡ true → ch.list.reserve ≡ None → closed ch.list ≡ false → Went l (part_of ch) (part_holding (stepped ch) ch.extended false (part_of ch))
+  went_empty z re q = record {
     running = record { active = r.active; course = r.course; extended = λ h. absurd (never (sym h)); kept = λ _. refl; open_list = λ _. q };
-    taken = ap₂ ◌++◌ (zero-count z) (ap (reserve_plan l) re);
+    taken = ap₂ ◌++◌ (zero_count z) (ap (reserve_plan l) re);
     fetching = λ o. refl;
     place = refl;
     closing = refl;
   }
 
-  as-part : (p : Part) → part_of (passed ch).channel ≡ p → Went l (part_of ch) p → Went l (part_of ch) (part_of (passed ch).channel)
-  as-part p e w = let P : Part → Type 0 = λ x. Went l (part_of ch) x in subst P (sym e) w
+  as_part : (p : Part) → part_of (passed ch).channel ≡ p → Went l (part_of ch) p → Went l (part_of ch) (part_of (passed ch).channel)
+  as_part p e w = let P : Part → Type 0 = λ x. Went l (part_of ch) x in subst P (sym e) w
 
-  went-by : (z : Bool) (o : Option Buffer) (q : Bool) → eqb ch.current.count 0 ≡ z → ch.list.reserve ≡ o → closed ch.list ≡ q → is_some (passed ch).signal ≡ false
+  went_by : (z : Bool) (o : Option Buffer) (q : Bool) → eqb ch.current.count 0 ≡ z → ch.list.reserve ≡ o → closed ch.list ≡ q → is_some (passed ch).signal ≡ false
       → Went l (part_of ch) (part_of (passed ch).channel)
-  went-by false o q z re cl s = as-part _ (part_mid ch z) (went-mid z)
-  went-by true (Some e) q z re cl s = as-part _ (part_next ch e z r.active re) (went-next e z re)
-  went-by true None true z re cl s = absurd (never (sym (signal_empty ch true z r.active re cl) ∙ s))
-  went-by true None false z re cl s = as-part _ (part_empty ch z r.active re cl) (went-empty z re cl)
+  went_by false o q z re cl s = as_part _ (part_mid ch z) (went_mid z)
+  went_by true (Some e) q z re cl s = as_part _ (part_next ch e z r.active re) (went_next e z re)
+  went_by true None true z re cl s = absurd (never (sym (signal_empty ch true z r.active re cl) ∙ s))
+  went_by true None false z re cl s = as_part _ (part_empty ch z r.active re cl) (went_empty z re cl)
 
   pub went : is_some (passed ch).signal ≡ false → Went l (part_of ch) (part_of (passed ch).channel)
-  went s = went-by _ _ _ refl refl refl s
+  went s = went_by _ _ _ refl refl refl s
 
 -- a list is over exactly with the last address of a closed plan
 abbrev pub ending : Part → Outside → Bool
 ending p o = is_closed p || ends_by_eol (unfetched p o)
 
-first-long : (l : Course) (p : Place) (n : ℕ) (rest : List ℕ) → eqb 0 (length (plan l p (suc n) ++ rest)) ≡ false
-first-long l p n rest = grind arith
+first_long : (l : Course) (p : Place) (n : ℕ) (rest : List ℕ) → eqb 0 (length (plan l p (suc n) ++ rest)) ≡ false
+first_long l p n rest = grind arith
 
 and_false : (b : Bool) → (b && false) ≡ false
 and_false true = refl
@@ -110,7 +110,7 @@ open_end l [] = refl
 open_end l (e ∷ es) = sym (ap (λ b. ends_by_eol (e ∷ es) && b) (longer e.entry) ∙ and_false (ends_by_eol (e ∷ es)))
   where
     longer : (b : Buffer) → eqb 0 (length (buffer_plan l b ++ along l es)) ≡ false
-    longer b = first-long l (entry_span b).place b.count (along l es)
+    longer b = first_long l (entry_span b).place b.count (along l es)
 
 module _ (l : Course) (ch : Channel) (o : Outside) (r : Running l (part_of ch)) where
   ends_by : (z : Bool) (e : Option Buffer) (q : Bool) → eqb ch.current.count 0 ≡ z → ch.list.reserve ≡ e → closed ch.list ≡ q
@@ -123,11 +123,11 @@ module _ (l : Course) (ch : Channel) (o : Outside) (r : Running l (part_of ch)) 
       far zero h = absurd (never h)
       far (suc n) h =
           ap (λ x. eqb 0 (length x)) (append_assoc (plan l (moved_place l ch.current.place) (suc n)) (reserve_plan l ch.list.reserve) (along l (unfetched (part_of ch) o)))
-          ∙ first-long l (moved_place l ch.current.place) n (reserve_plan l ch.list.reserve ++ along l (unfetched (part_of ch) o))
+          ∙ first_long l (moved_place l ch.current.place) n (reserve_plan l ch.list.reserve ++ along l (unfetched (part_of ch) o))
   ends_by true (Some e) q z re cl =
       let n : ch.current.count ≡ 0 = grind arith in
-      let more : eqb 0 (length (behind l ch o)) ≡ false = rw (n, re) (first-long l (entry_span e).place e.count (along l (unfetched (part_of ch) o))) in
-      signal-next ch e z r.active re ∙ sym (ap (λ b. ending (part_of ch) o && b) more ∙ and_false (ending (part_of ch) o))
+      let more : eqb 0 (length (behind l ch o)) ≡ false = rw (n, re) (first_long l (entry_span e).place e.count (along l (unfetched (part_of ch) o))) in
+      signal_next ch e z r.active re ∙ sym (ap (λ b. ending (part_of ch) o && b) more ∙ and_false (ending (part_of ch) o))
   ends_by true None true z re cl =
       let n : ch.current.count ≡ 0 = grind arith in
       signal_empty ch true z r.active re cl ∙ rw (n, re, cl)
@@ -183,34 +183,34 @@ module _ (l : Course) (ch : Channel) (o : Outside) (c : ℕ) (x : Entry) (r : Ru
   facts = came o.kinds o.bytes c ch.list x (leb most_entries ch.list.entries) refl e
 
   -- where the list is open, the entry fetched is the first of those that were not yet
-  first-unfetched : is_closed (part_of ch) ≡ false → (p : Part) → p.entries ≡ (ch.list.entries + 1) % 65536 → p.next ≡ x.next → p.ended ≡ x.last → p.stopped ≡ ch.list.stopped
+  first_unfetched : is_closed (part_of ch) ≡ false → (p : Part) → p.entries ≡ (ch.list.entries + 1) % 65536 → p.next ≡ x.next → p.ended ≡ x.last → p.stopped ≡ ch.list.stopped
       → unfetched (part_of ch) o ≡ x ∷ unfetched p o
-  first-unfetched q p en nx ed st =
+  first_unfetched q p en nx ed st =
       let f = facts in
       let less = f.0 in
       let n : most_entries - ch.list.entries ≡ suc (most_entries - ((ch.list.entries + 1) % 65536)) = omega arith in
-      let halted : ch.list.stopped ≡ false = stopped-not ch.list.ended ch.list.stopped q in
+      let halted : ch.list.stopped ≡ false = stopped_not ch.list.ended ch.list.stopped q in
       let shut : is_closed p ≡ x.last = ap₂ ◌||◌ ed (st ∙ halted) ∙ or_false x.last in
       let here : unfetched (part_of ch) o ≡ entries_from (most_entries - ch.list.entries) o ch.list.next = rw q in
       let there : unfetched p o ≡ cond x.last [] (entries_from (most_entries - ((ch.list.entries + 1) % 65536)) o x.next) =
       ap (λ b. cond b [] (entries_from (most_entries - p.entries) o p.next)) shut ∙ ap₂ (λ i a. cond x.last [] (entries_from (most_entries - i) o a)) en nx in
-      let step = entries-more (most_entries - ((ch.list.entries + 1) % 65536)) o ch.list.next f.1 in
+      let step = entries_more (most_entries - ((ch.list.entries + 1) % 65536)) o ch.list.next f.1 in
       let mine : cond (entry_in o.bytes ch.list.next).last (entry_in o.bytes ch.list.next ∷ []) (entry_in o.bytes ch.list.next ∷ entries_from (most_entries - ((ch.list.entries + 1) % 65536)) o (after_entry ch.list.next))
       ≡ cond x.last (x ∷ []) (x ∷ entries_from (most_entries - ((ch.list.entries + 1) % 65536)) o x.next) =
       ap (λ (y : Entry). cond y.last (y ∷ []) (y ∷ entries_from (most_entries - ((ch.list.entries + 1) % 65536)) o y.next)) (sym f.2) in
       here ∙ ap (λ i. entries_from i o ch.list.next) n ∙ step ∙ mine ∙ rest_of x.last x _ ∙ ap (λ es. x ∷ es) (sym there)
     where
-      stopped-not : (a b : Bool) → (a || b) ≡ false → b ≡ false
-      stopped-not true b h = absurd (never h)
-      stopped-not false b h = h
+      stopped_not : (a b : Bool) → (a || b) ≡ false → b ≡ false
+      stopped_not true b h = absurd (never h)
+      stopped_not false b h = h
 
-  got-reserve : ch.list.loaded ≡ true → ch.list.reserve ≡ None → is_closed (part_of ch) ≡ false → Got l (part_of ch) (part_fetched x (part_of ch)) x o
-  got-reserve ld re q = record {
+  got_reserve : ch.list.loaded ≡ true → ch.list.reserve ≡ None → is_closed (part_of ch) ≡ false → Got l (part_of ch) (part_fetched x (part_of ch)) x o
+  got_reserve ld re q = record {
     running = record { active = r.active; course = r.course; extended = λ _. r.extended ld; kept = λ h. absurd (never h); open_list = λ h. absurd (never h) };
     loaded =
         let here : loaded_plan l (part_of ch) ≡ plan l ch.current.place (suc ch.current.count) = rw (ld, re) (append-nil (plan l ch.current.place (suc ch.current.count))) in
         ap (λ y. y ++ buffer_plan l x.entry) (sym here);
-    fetched = first-unfetched q (part_fetched x (part_of ch)) refl refl refl refl;
+    fetched = first_unfetched q (part_fetched x (part_of ch)) refl refl refl refl;
     place = ap (λ (y : Entry). y.next) facts.2;
     opened = q;
     closing = shut ch.list.ended ch.list.stopped q;
@@ -220,8 +220,8 @@ module _ (l : Course) (ch : Channel) (o : Outside) (c : ℕ) (x : Entry) (r : Ru
       shut true b h = absurd (never h)
       shut false b h = rw h (or_false x.last)
 
-  got-current : ch.list.loaded ≡ false → Got l (part_of ch) (part_loaded x (part_of ch)) x o
-  got-current ld =
+  got_current : ch.list.loaded ≡ false → Got l (part_of ch) (part_loaded x (part_of ch)) x o
+  got_current ld =
       let re = r.kept ld in
       let q = r.open_list ld in
       record {
@@ -230,7 +230,7 @@ module _ (l : Course) (ch : Channel) (o : Outside) (c : ℕ) (x : Entry) (r : Ru
             let here : loaded_plan l (part_of ch) ≡ [] = rw (ld, re) in
             let there : loaded_plan l (part_loaded x (part_of ch)) ≡ buffer_plan l x.entry = rw re (append-nil (buffer_plan l x.entry)) in
             there ∙ ap (λ y. y ++ buffer_plan l x.entry) (sym here);
-        fetched = first-unfetched q (part_loaded x (part_of ch)) refl refl refl refl;
+        fetched = first_unfetched q (part_loaded x (part_of ch)) refl refl refl refl;
         place = ap (λ (y : Entry). y.next) facts.2;
         opened = q;
         closing = shut ch.list.ended ch.list.stopped q;
@@ -240,24 +240,24 @@ module _ (l : Course) (ch : Channel) (o : Outside) (c : ℕ) (x : Entry) (r : Ru
       shut true b h = absurd (never h)
       shut false b h = rw h (or_false x.last)
 
-  filled-as : (p : Part) → part_of (filled x ch) ≡ p → Got l (part_of ch) p x o → Got l (part_of ch) (part_of (filled x ch)) x o
-  filled-as p h g = let P : Part → Type 0 = λ y. Got l (part_of ch) y x o in subst P (sym h) g
+  filled_as : (p : Part) → part_of (filled x ch) ≡ p → Got l (part_of ch) p x o → Got l (part_of ch) (part_of (filled x ch)) x o
+  filled_as p h g = let P : Part → Type 0 = λ y. Got l (part_of ch) y x o in subst P (sym h) g
 
-  got-by : (b : Bool) → ch.list.loaded ≡ b → CanFetch ch → Got l (part_of ch) (part_of (filled x ch)) x o
-  got-by false ld can = filled-as _ (part_loaded_lem x ch ld) (got-current ld)
-  got-by true ld (a, inl off) = absurd (never (sym ld ∙ off))
-  got-by true ld (a, inr on) =
-      let room : is_loaded ch.list.reserve ≡ false = (let h : not (ch.list.loaded && is_loaded ch.list.reserve) ≡ true = on.1 in let g : not (is_loaded ch.list.reserve) ≡ true = rw ld at h in not-true _ g) in
-      let q : is_closed (part_of ch) ≡ false = open-not ch.list.active (is_closed (part_of ch)) on.0 in
-      filled-as _ (part_fetched_lem x ch ld) (got-reserve ld (no_reserve _ room) q)
+  got_by : (b : Bool) → ch.list.loaded ≡ b → CanFetch ch → Got l (part_of ch) (part_of (filled x ch)) x o
+  got_by false ld can = filled_as _ (part_loaded_lem x ch ld) (got_current ld)
+  got_by true ld (a, inl off) = absurd (never (sym ld ∙ off))
+  got_by true ld (a, inr on) =
+      let room : is_loaded ch.list.reserve ≡ false = (let h : not (ch.list.loaded && is_loaded ch.list.reserve) ≡ true = on.1 in let g : not (is_loaded ch.list.reserve) ≡ true = rw ld at h in not_true _ g) in
+      let q : is_closed (part_of ch) ≡ false = open_not ch.list.active (is_closed (part_of ch)) on.0 in
+      filled_as _ (part_fetched_lem x ch ld) (got_reserve ld (no_reserve _ room) q)
     where
-      not-true : (b : Bool) → not b ≡ true → b ≡ false
-      not-true true h = absurd (never (sym h))
-      not-true false h = refl
+      not_true : (b : Bool) → not b ≡ true → b ≡ false
+      not_true true h = absurd (never (sym h))
+      not_true false h = refl
 
-      open-not : (a b : Bool) → (a && not b) ≡ true → b ≡ false
-      open-not true b h = not-true b h
-      open-not false b h = absurd (never (sym h))
+      open_not : (a b : Bool) → (a && not b) ≡ true → b ≡ false
+      open_not true b h = not_true b h
+      open_not false b h = absurd (never (sym h))
 
   pub got : CanFetch ch → Got l (part_of ch) (part_of (filled x ch)) x o
-  got can = got-by _ refl can
+  got can = got_by _ refl can

@@ -46,15 +46,15 @@ none_holds Home h g = refl
 none_holds (Out c) h g = refl
 none_holds (Taken c) h g = absurd h
 
-pub held-channel : (g : Grant) (b : Bus) → Holding (Some g) b → g.channel ≡ out_to b
-held-channel g Home h = absurd h
-held-channel g (Out c) h = absurd h
-held-channel g (Taken c) h = h
+pub held_channel : (g : Grant) (b : Bus) → Holding (Some g) b → g.channel ≡ out_to b
+held_channel g Home h = absurd h
+held_channel g (Out c) h = absurd h
+held_channel g (Taken c) h = h
 
-pub held-holds : (g : Grant) (b : Bus) → Holding (Some g) b → holds b g.channel ≡ true
-held-holds g Home h = absurd h
-held-holds g (Out c) h = absurd h
-held-holds g (Taken c) h = rw h (grind arith)
+pub held_holds : (g : Grant) (b : Bus) → Holding (Some g) b → holds b g.channel ≡ true
+held_holds g Home h = absurd h
+held_holds g (Out c) h = absurd h
+held_holds g (Taken c) h = rw h (grind arith)
 
 -- a release brings the bus back
 pub home_again : (s : State) (g : ℕ) → holds s.bus g ≡ true → (released g s).bus ≡ Home

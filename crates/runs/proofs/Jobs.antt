@@ -57,16 +57,16 @@ module _ (c : ℕ) (hc : c < 8) where
       ap (λ b. cond b [] (entries_from (most_entries - ch.list.entries) o ch.list.next)) q
       ∙ ap₂ (λ n a. entries_from (most_entries - n) o a) f.uncounted f.placed
 
-  nothing-loaded : (l : Course) (ch : Channel) → Fresh ch → loaded_plan l (part_of ch) ≡ []
-  nothing-loaded l ch f = rw (f.unloaded, f.unreserved)
+  nothing_loaded : (l : Course) (ch : Channel) → Fresh ch → loaded_plan l (part_of ch) ≡ []
+  nothing_loaded l ch f = rw (f.unloaded, f.unreserved)
 
   closes_by : (ch : Channel) (o : Outside) (r : Option ℕ) → Fresh ch → closing (part_of ch) o r ≡ closed_by r (entries_at o ch.list.pointer)
   closes_by ch o None f = ap₂ (λ b es. b || ends_by_eol es) (ap₂ ◌||◌ f.unended f.unstopped) (whole ch o f)
   closes_by ch o (Some n) f = refl
 
-  list-job : (s : State) (ks : List Call) (k : Call) (m : Move) → Sound s.registers → ((channel_of s.registers c).list.active ≡ true → Fresh (channel_of s.registers c))
+  list_job : (s : State) (ks : List Call) (k : Call) (m : Move) → Sound s.registers → ((channel_of s.registers c).list.active ≡ true → Fresh (channel_of s.registers c))
       → NoneBegins c (run s ks) → move_of c (turn_of (ended s ks) k) ≡ Some m → ListJob c s (run s ks) m
-  list-job s ks k m h begun b e on spared =
+  list_job s ks k m h begun b e on spared =
       let ch = channel_of s.registers c in
       let o = s.world in
       let l = list_course (part_of ch) in
@@ -77,25 +77,25 @@ module _ (c : ℕ) (hc : c < 8) where
       let table : table_of ch.list.pointer (entries_at o ch.list.pointer) ≡ table_left (part_of ch) o =
       ap₂ (λ es a. places (8 * length es) a) (sym all) (sym f.placed) in
       along_by _ _ _ _ _ _ m
-      (ap₂ ◌++◌ (nothing-loaded l ch f) (ap (λ es. along l (cut r es)) all) ∙ sym (along_is ch (cut r (entries_at o ch.list.pointer))))
+      (ap₂ ◌++◌ (nothing_loaded l ch f) (ap (λ es. along l (cut r es)) all) ∙ sym (along_is ch (cut r (entries_at o ch.list.pointer))))
       (closes_by ch o r f)
       refl
       (list_row c hc l s ks k m h (started ch o on f) b (subst U table spared) e)
 
   job : (s : State) (ks : List Call) (k : Call) (m : Move) → Sound s.registers → ((channel_of s.registers c).list.active ≡ true → Fresh (channel_of s.registers c))
       → NoneBegins c (run s ks) → move_of c (turn_of (ended s ks) k) ≡ Some m → Job c s (run s ks) m
-  job s ks k m h f b e = (plain_job c hc s ks k m h b e, list-job s ks k m h f b e)
+  job s ks k m h f b e = (plain_job c hc s ks k m h b e, list_job s ks k m h f b e)
 
   -- a job, where the run is told by its turns
-  by-turns : (s : State) (row : List Turn) (t : Turn) (rest : List Turn) (m : Move) → Cut s row t rest → Sound s.registers
+  by_turns : (s : State) (row : List Turn) (t : Turn) (rest : List Turn) (m : Move) → Cut s row t rest → Sound s.registers
       → ((channel_of s.registers c).list.active ≡ true → Fresh (channel_of s.registers c)) → NoneBegins c row → move_of c t ≡ Some m → Job c s row m
-  by-turns s row t rest m x h f b e =
+  by_turns s row t rest m x h f b e =
       let N : List Turn → Type 0 = λ r. NoneBegins c r in
       let J : List Turn → Type 0 = λ r. Job c s r m in
       subst J (sym x.before) (job s x.calls x.call m h f (subst N x.before b) (sym (ap (move_of c) x.here) ∙ e))
 
-  off-at-first : (o : Outside) → (channel_of (fresh o).registers c).list.active ≡ true → Fresh (channel_of (fresh o).registers c)
-  off-at-first o h = absurd (never (sym h ∙ off (ltb c 4) refl))
+  off_at_first : (o : Outside) → (channel_of (fresh o).registers c).list.active ≡ true → Fresh (channel_of (fresh o).registers c)
+  off_at_first o h = absurd (never (sym h ∙ off (ltb c 4) refl))
     where
       off : (q : Bool) → ltb c 4 ≡ q → (channel_of (fresh o).registers c).list.active ≡ false
       off true q = rw q (below_four (λ j. (get_or fresh_file.first.channels j blank).list.active ≡ false) refl refl refl refl (c % 4) (omega arith))
@@ -106,7 +106,7 @@ sound_first o = ((refl, refl), tt)
 
 pub planned : (o : Outside) (ks : List Call) → Planned (fresh o) (run (fresh o) ks)
 planned o ks = record {
-  made = λ c row rest t m hc e b mv. by-turns c hc (fresh o) row t rest m (cut-run (fresh o) ks row t rest e) (sound_first o) (off-at-first c hc o) b mv;
+  made = λ c row rest t m hc e b mv. by_turns c hc (fresh o) row t rest m (cut-run (fresh o) ks row t rest e) (sound_first o) (off_at_first c hc o) b mv;
   begun = λ c past row rest x t m hc e bx b mv. (
       let u = cut-run (fresh o) ks past x (row ++ (t ∷ rest)) e in
       let s = ended (fresh o) u.calls in
@@ -115,5 +115,5 @@ planned o ks = record {
       let v = cut-run s' u.others row t rest (sym u.after) in
       let B : Turn → Type 0 = λ z. begins_job c z ≡ true in
       let J : Turn → Type 0 = λ z. Job c z.after row m in
-      subst J (sym u.here) (by-turns c hc s' row t rest m v (sound_kept s u.call h) (begun_fresh c hc s u.call h (subst B u.here bx)) b mv));
+      subst J (sym u.here) (by_turns c hc s' row t rest m v (sound_kept s u.call h) (begun_fresh c hc s u.call h (subst B u.here bx)) b mv));
 }

@@ -31,22 +31,22 @@ pub data Left (k : Registers) : Registers → Type 0 where
 
 -- a change of one group that leaves its slot leaves both
 module _ (f : Group → Group) (same : (g : Group) → (f g).last ≡ g.last) (k : Registers) where
-  dma-stays : (d : Dma) → lasts (at_dma d f k) ≡ lasts k
-  dma-stays One = ap (λ (n : ℕ). (n, k.second.last)) (same k.first)
-  dma-stays Two = ap (λ (n : ℕ). (k.first.last, n)) (same k.second)
+  dma_stays : (d : Dma) → lasts (at_dma d f k) ≡ lasts k
+  dma_stays One = ap (λ (n : ℕ). (n, k.second.last)) (same k.first)
+  dma_stays Two = ap (λ (n : ℕ). (k.first.last, n)) (same k.second)
 
   either_stays : (b : Bool) → lasts (cond b (at_first f k) (at_second f k)) ≡ lasts k
-  either_stays true = dma-stays One
-  either_stays false = dma-stays Two
+  either_stays true = dma_stays One
+  either_stays false = dma_stays Two
 
-  group-stays : (c : ℕ) → lasts (at_group_of c f k) ≡ lasts k
-  group-stays c = either_stays (ltb c 4)
+  group_stays : (c : ℕ) → lasts (at_group_of c f k) ≡ lasts k
+  group_stays c = either_stays (ltb c 4)
 
 pub channel_stays : (c : ℕ) (ch : Channel) (k : Registers) → lasts (with_channel c ch k) ≡ lasts k
-channel_stays c ch k = group-stays (with_slot c ch) (λ g. refl) k c
+channel_stays c ch k = group_stays (with_slot c ch) (λ g. refl) k c
 
 flip_stays : (c : ℕ) (ch : Channel) (k : Registers) → lasts (at_group_of c flipped (programmed c ch k)) ≡ lasts k
-flip_stays c ch k = group-stays flipped (λ g. refl) (programmed c ch k) c ∙ channel_stays c ch k
+flip_stays c ch k = group_stays flipped (λ g. refl) (programmed c ch k) c ∙ channel_stays c ch k
 
 field_stays : (f : Field) (c v : ℕ) (k : Registers) → lasts (field_written f c v k) ≡ lasts k
 field_stays field.Address c v k = flip_stays c _ k
@@ -60,15 +60,15 @@ list_stays true c ch k = channel_stays c ch k
 list_stays false c ch k = channel_stays c ch k
 
 control_left : (x : Control) (d : Dma) (v : ℕ) (k : Registers) → Left k (control_written x d v k)
-control_left control.Command d v k = stay (dma-stays (with_command v) (λ g. refl) k d)
+control_left control.Command d v k = stay (dma_stays (with_command v) (λ g. refl) k d)
 control_left control.Request d v k = stay (channel_stays (picked d v) _ k)
 control_left control.Mask d v k = stay (channel_stays (picked d v) _ k)
 control_left control.Mode d v k = stay (channel_stays (picked d v) _ k)
 control_left control.ExtendedMode d v k = stay (channel_stays (picked d v) _ k)
-control_left control.ClearPointer d v k = stay (dma-stays (with_pointer false) (λ g. refl) k d)
+control_left control.ClearPointer d v k = stay (dma_stays (with_pointer false) (λ g. refl) k d)
 control_left control.MasterClear d v k = clear d (over_in d k.service)
-control_left control.ClearMasks d v k = stay (dma-stays (with_masks 0) (λ g. refl) k d)
-control_left control.AllMasks d v k = stay (dma-stays (with_masks v) (λ g. refl) k d)
+control_left control.ClearMasks d v k = stay (dma_stays (with_masks 0) (λ g. refl) k d)
+control_left control.AllMasks d v k = stay (dma_stays (with_masks v) (λ g. refl) k d)
 
 accepted_left : (w : WritePort) (v : ℕ) (k : Registers) → Left k (accepted_at w v k)
 accepted_left (write.Field f c) v k = stay (field_stays f c v k)
@@ -88,8 +88,8 @@ pub write_left : (p v : ℕ) (k : Registers) → Left k (written p v k)
 write_left p v k = port_left (write_port p) v k
 
 field_read_stays : (f : Field) (c : ℕ) (k : Registers) → lasts (field_read f c k) ≡ lasts k
-field_read_stays field.Address c k = group-stays flipped (λ g. refl) k c
-field_read_stays field.Count c k = group-stays flipped (λ g. refl) k c
+field_read_stays field.Address c k = group_stays flipped (λ g. refl) k c
+field_read_stays field.Count c k = group_stays flipped (λ g. refl) k c
 field_read_stays field.LowPage c k = refl
 field_read_stays field.HighPage c k = refl
 field_read_stays (field.Table n) c k = refl
@@ -97,7 +97,7 @@ field_read_stays (field.Table n) c k = refl
 port_stays : (p : ReadPort) (k : Registers) → lasts (read_at p k) ≡ lasts k
 port_stays (read.Field f c) k = field_read_stays f c k
 port_stays (read.ListStatus c) k = refl
-port_stays (read.Status d) k = dma-stays without_terminals (λ g. refl) k d
+port_stays (read.Status d) k = dma_stays without_terminals (λ g. refl) k d
 port_stays (read.AllMasks d) k = refl
 port_stays read.Irq13 k = refl
 

@@ -3,7 +3,7 @@ use Rattle.std.proofs.Common.{◌≡◌, ℕ, zero, suc, ◌+◌, ◌-◌, ◌*�
 use Rattle.bus.specs.declared.place.Course.{Course}
 use Rattle.bus.specs.Address.{moved_place}
 use Rattle.bus.specs.Plan.{planned, plan}
-use Rattle.bus.proofs.Plans.{plan-next}
+use Rattle.bus.proofs.Plans.{plan_next}
 use Rattle.registers.specs.declared.channel.Channel.{Channel}
 use Rattle.registers.specs.File.{channel_of}
 use Rattle.controller.specs.declared.fetching.Fetched.{Fetched as Entry}
@@ -20,7 +20,7 @@ use Rattle.runs.proofs.Runs.{turn_of}
 use Rattle.runs.proofs.Carry.{carries}
 use Rattle.runs.proofs.Parts.{Part, part_of}
 use Rattle.runs.proofs.Written.{with_stop}
-use Rattle.runs.proofs.Turns.{from, to, Effect, still, closes, moves, fetches_one, effect, move_passes, begins-signals}
+use Rattle.runs.proofs.Turns.{from, to, Effect, still, closes, moves, fetches_one, effect, move_passes, begins_signals}
 use Rattle.runs.proofs.Sound.{Sound, sound_kept}
 use Rattle.runs.proofs.Tables.{Agree, spared_agree, spared_tail, same_entries, after_entry, eight_more}
 use Rattle.runs.proofs.Lists.{along, buffer_plan, reserve_plan, loaded_plan, is_closed, unfetched, Running, never, own_course}
@@ -45,8 +45,8 @@ along_by a b q w i j m e f g h = record {
   signals = h.signals ∙ ap₂ ◌&&◌ f (ap₂ (λ x y. eqb (y + 1) (length x)) e g);
 }
 
-along-more : (a : ℕ) (xs : List ℕ) (q : Bool) (n : ℕ) (m : Move) → Along xs q n m → Along (a ∷ xs) q (1 + n) m
-along-more a xs q n m h =
+along_more : (a : ℕ) (xs : List ℕ) (q : Bool) (n : ℕ) (m : Move) → Along xs q n m → Along (a ∷ xs) q (1 + n) m
+along_more a xs q n m h =
     let e : 1 + n ≡ suc n = omega arith in
     let w = h.within in
     record {
@@ -95,8 +95,8 @@ more-zero None = refl
 more-zero (Some n) = ap Some (omega arith)
 
 -- a world in which the table stands as it did has the same entries left
-unfetched-same : (p : Part) (o w : Outside) → w.kinds ≡ o.kinds → Agree o.bytes w.bytes (table_left p o) → unfetched p w ≡ unfetched p o
-unfetched-same p o w k a = go (is_closed p) refl
+unfetched_same : (p : Part) (o w : Outside) → w.kinds ≡ o.kinds → Agree o.bytes w.bytes (table_left p o) → unfetched p w ≡ unfetched p o
+unfetched_same p o w k a = go (is_closed p) refl
   where
     go : (q : Bool) → is_closed p ≡ q → unfetched p w ≡ unfetched p o
     go true q = rw q
@@ -110,9 +110,9 @@ closing_alike : (p q : Part) (w o : Outside) (r : Option ℕ) → is_closed p �
 closing_alike p q w o None a e = ap₂ (λ b es. b || ends_by_eol es) a e
 closing_alike p q w o (Some n) a e = refl
 
-closed-closing : (p : Part) (o : Outside) (r : Option ℕ) → is_closed p ≡ true → closing p o r ≡ true
-closed-closing p o None e = rw e
-closed-closing p o (Some n) e = refl
+closed_closing : (p : Part) (o : Outside) (r : Option ℕ) → is_closed p ≡ true → closing p o r ≡ true
+closed_closing p o None e = rw e
+closed_closing p o (Some n) e = refl
 
 or_true : (b : Bool) → (b || true) ≡ true
 or_true true = refl
@@ -130,10 +130,10 @@ cut-more (Some n) x es = ap (λ i. take i (x ∷ es)) (one_more n)
     one_more : (n : ℕ) → 1 + n ≡ suc n
     one_more n = omega arith
 
-closing-more : (p p' : Part) (o : Outside) (x : Entry) (r : Option ℕ) → is_closed p ≡ false → is_closed p' ≡ x.last → unfetched p o ≡ x ∷ unfetched p' o
+closing_more : (p p' : Part) (o : Outside) (x : Entry) (r : Option ℕ) → is_closed p ≡ false → is_closed p' ≡ x.last → unfetched p o ≡ x ∷ unfetched p' o
     → closing p o (more 1 r) ≡ closing p' o r
-closing-more p p' o x None a b e = ap₂ (λ q es. q || ends_by_eol es) a e ∙ ap (λ q. q || ends_by_eol (unfetched p' o)) (sym b)
-closing-more p p' o x (Some n) a b e = refl
+closing_more p p' o x None a b e = ap₂ (λ q es. q || ends_by_eol es) a e ∙ ap (λ q. q || ends_by_eol (unfetched p' o)) (sym b)
+closing_more p p' o x (Some n) a b e = refl
 
 -- a row of a running list, then a transfer
 module _ (c : ℕ) (hc : c < 8) (l : Course) where
@@ -141,15 +141,15 @@ module _ (c : ℕ) (hc : c < 8) (l : Course) where
   Goes s row m = Along (left_of l (part_of (channel_of s.registers c)) s.world (cut_after c row)) (closing (part_of (channel_of s.registers c)) s.world (cut_after c row)) (transfers c row) m
 
   -- the transfer itself
-  here-goes : (s : State) (k : Call) (m : Move) → Sound s.registers → Running l (part_of (channel_of s.registers c)) → move_of c (turn_of s k) ≡ Some m → Goes s [] m
-  here-goes s k m h r e =
+  here_goes : (s : State) (k : Call) (m : Move) → Sound s.registers → Running l (part_of (channel_of s.registers c)) → move_of c (turn_of s k) ≡ Some m → Goes s [] m
+  here_goes s k m h r e =
       let ch = channel_of s.registers c in
       let o = s.world in
       let p = move_passes c hc s k m h e in
       let ld = p.2 r.active in
       let here : loaded_plan l (part_of ch) ≡ plan l ch.current.place (suc ch.current.count) ++ reserve_plan l ch.list.reserve = rw ld in
       let first : left_of l (part_of ch) o None ≡ planned l ch.current.place 0 ∷ behind l ch o =
-      ap (λ x. x ++ along l (unfetched (part_of ch) o)) (here ∙ ap (λ x. x ++ reserve_plan l ch.list.reserve) (plan-next l ch.current.place ch.current.count)) in
+      ap (λ x. x ++ along l (unfetched (part_of ch) o)) (here ∙ ap (λ x. x ++ reserve_plan l ch.list.reserve) (plan_next l ch.current.place ch.current.count)) in
       along_by (planned l ch.current.place 0 ∷ behind l ch o) _ (ending (part_of ch) o) _ 0 _ m (sym first) refl refl (record {
         within = omega arith;
         address = p.0 ∙ ap (λ x. planned x ch.current.place 0) (own_course l ch r ld);
@@ -168,15 +168,15 @@ module _ (c : ℕ) (hc : c < 8) (l : Course) where
   abbrev Rest : State → List Call → Move → Type 0
   Rest s ks m = Running l (part_of (channel_of s.registers c)) → Untouched (table_left (part_of (channel_of s.registers c)) s.world) (run s ks) → Goes s (run s ks) m
 
-  turn-goes : (s : State) (k : Call) (ks : List Call) (m : Move) → Running l (part_of (channel_of s.registers c)) → begins_job c (turn_of s k) ≡ false
+  turn_goes : (s : State) (k : Call) (ks : List Call) (m : Move) → Running l (part_of (channel_of s.registers c)) → begins_job c (turn_of s k) ≡ false
       → Untouched (table_left (part_of (channel_of s.registers c)) s.world) (run s (k ∷ ks)) → Effect c (turn_of s k) → Rest (performed s k).0 ks m → Goes s (run s (k ∷ ks)) m
-  turn-goes s k ks m r b u (still mv ft st p) rest =
+  turn_goes s k ks m r b u (still mv ft st p) rest =
       let t = turn_of s k in
       let P = part_of (from c t) in
       let o = s.world in
       let w = (performed s k).0.world in
       let row = run (performed s k).0 ks in
-      let eu = unfetched-same P o w (carries s k).kinds (agreed s k (table_left P o) u.0) in
+      let eu = unfetched_same P o w (carries s k).kinds (agreed s k (table_left P o) u.0) in
       let R : Part → Type 0 = λ q. Running l q in
       let U : List ℕ → Type 0 = λ ys. Untouched ys row in
       let table : table_left (part_of (to c t)) w ≡ table_left P o = ap (λ q. table_left q w) p ∙ ap (λ es. places (8 * length es) P.next) eu in
@@ -190,7 +190,7 @@ module _ (c : ℕ) (hc : c < 8) (l : Course) where
       on : (stops c (turn_of s k) ≡ false) ⊎ ((from c (turn_of s k)).list.active ≡ false) → stops c (turn_of s k) ≡ false
       on (inl e) = e
       on (inr e) = absurd (never (sym r.active ∙ e))
-  turn-goes s k ks m r b u (closes mv ft st a ld p) rest =
+  turn_goes s k ks m r b u (closes mv ft st a ld p) rest =
       let t = turn_of s k in
       let P = part_of (from c t) in
       let o = s.world in
@@ -206,19 +206,19 @@ module _ (c : ℕ) (hc : c < 8) (l : Course) where
       along_by _ _ _ _ _ _ m
       (ap (λ q. left_of l q w (cut_after c row)) p ∙ ap (λ es. loaded_plan l P ++ along l (cut (cut_after c row) es)) none
       ∙ ap (λ es. loaded_plan l P ++ along l es) (cut_none (cut_after c row) ∙ sym (take-zero (unfetched P o))) ∙ ap (left_of l P o) (sym cuts))
-      (ap (λ q. closing q w (cut_after c row)) p ∙ closed-closing (with_stop P) w (cut_after c row) shut ∙ ap (closing P o) (sym cuts))
+      (ap (λ q. closing q w (cut_after c row)) p ∙ closed_closing (with_stop P) w (cut_after c row) shut ∙ ap (closing P o) (sym cuts))
       (sym (ap (λ q. cond (is_some q) 1 0 + transfers c row) mv ∙ zero-add (transfers c row)))
       (rest (subst R (sym p) run_on) (subst U (sym table) (untouched_none row)))
-  turn-goes s k ks m r b u (moves j mv ft st ad sg ch rd) rest =
+  turn_goes s k ks m r b u (moves j mv ft st ad sg ch rd) rest =
       let t = turn_of s k in
       let P = part_of (from c t) in
       let o = s.world in
       let w = (performed s k).0.world in
       let row = run (performed s k).0 ks in
-      let quiet : is_some (passed (from c t)).signal ≡ false = ap is_some (sym sg) ∙ sym (begins-signals c hc s k j mv) ∙ b in
+      let quiet : is_some (passed (from c t)).signal ≡ false = ap is_some (sym sg) ∙ sym (begins_signals c hc s k j mv) ∙ b in
       let left = went l (from c t) r (rd r.active) quiet in
       let p : part_of (to c t) ≡ part_of (passed (from c t)).channel = ap part_of ch in
-      let eu : unfetched (part_of (passed (from c t)).channel) w ≡ unfetched P o = left.fetching w ∙ unfetched-same P o w (carries s k).kinds (agreed s k (table_left P o) u.0) in
+      let eu : unfetched (part_of (passed (from c t)).channel) w ≡ unfetched P o = left.fetching w ∙ unfetched_same P o w (carries s k).kinds (agreed s k (table_left P o) u.0) in
       let R : Part → Type 0 = λ q. Running l q in
       let U : List ℕ → Type 0 = λ ys. Untouched ys row in
       let table : table_left (part_of (to c t)) w ≡ table_left P o = ap (λ q. table_left q w) p ∙ ap₂ (λ es a. places (8 * length es) a) eu left.place in
@@ -230,8 +230,8 @@ module _ (c : ℕ) (hc : c < 8) (l : Course) where
       ∙ ap (λ x. x ++ along l (cut (cut_after c row) (unfetched P o))) (sym left.taken) ∙ ap (left_of l P o) (sym cuts))
       (ap (λ q. closing q w (cut_after c row)) p ∙ closing_alike (part_of (passed (from c t)).channel) P w o (cut_after c row) left.closing eu ∙ ap (closing P o) (sym cuts))
       (sym (ap (λ q. cond (is_some q) 1 0 + transfers c row) mv))
-      (along-more first _ _ _ m (rest (subst R (sym p) left.running) (subst U (sym table) u.1)))
-  turn-goes s k ks m r b u (fetches_one x mv ft st e ch can w) rest =
+      (along_more first _ _ _ m (rest (subst R (sym p) left.running) (subst U (sym table) u.1)))
+  turn_goes s k ks m r b u (fetches_one x mv ft st e ch can w) rest =
       let t = turn_of s k in
       let P = part_of (from c t) in
       let Q = part_of (filled x (from c t)) in
@@ -252,12 +252,12 @@ module _ (c : ℕ) (hc : c < 8) (l : Course) where
       ∙ append_assoc (loaded_plan l P) (buffer_plan l x.entry) (along l (cut (cut_after c row) (unfetched Q o)))
       ∙ ap (λ es. loaded_plan l P ++ along l es) (sym (cut-more (cut_after c row) x (unfetched Q o)) ∙ ap (cut (more 1 (cut_after c row))) (sym new.fetched))
       ∙ ap (left_of l P o) (sym cuts))
-      (ap₂ (λ q z. closing q z (cut_after c row)) p w ∙ sym (closing-more P Q o x (cut_after c row) new.opened new.closing new.fetched) ∙ ap (closing P o) (sym cuts))
+      (ap₂ (λ q z. closing q z (cut_after c row)) p w ∙ sym (closing_more P Q o x (cut_after c row) new.opened new.closing new.fetched) ∙ ap (closing P o) (sym cuts))
       (sym (ap (λ q. cond (is_some q) 1 0 + transfers c row) mv ∙ zero-add (transfers c row)))
       (rest (subst R (sym p) new.running) (subst U (sym table) (after_entry_lem (length (unfetched Q o)) P.next row (subst V new.fetched u.1))))
 
   pub list_row : (s : State) (ks : List Call) (k : Call) (m : Move) → Sound s.registers → Running l (part_of (channel_of s.registers c)) → NoneBegins c (run s ks)
       → Untouched (table_left (part_of (channel_of s.registers c)) s.world) (run s ks) → move_of c (turn_of (ended s ks) k) ≡ Some m → Goes s (run s ks) m
-  list_row s [] k m h r b u e = here-goes s k m h r e
+  list_row s [] k m h r b u e = here_goes s k m h r e
   list_row s (j ∷ ks) k m h r b u e =
-      turn-goes s j ks m r b.0 u (effect c hc s j h b.0) (λ r' u'. list_row (performed s j).0 ks k m (sound_kept s j h) r' b.1 u' e)
+      turn_goes s j ks m r b.0 u (effect c hc s j h b.0) (λ r' u'. list_row (performed s j).0 ks k m (sound_kept s j h) r' b.1 u' e)

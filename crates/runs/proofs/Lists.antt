@@ -3,7 +3,7 @@ use Rattle.std.proofs.Common.{◌≡◌, ℕ, zero, suc, ◌+◌, ◌-◌, ◌*�
 use Rattle.bus.specs.declared.place.Course.{Course}
 use Rattle.bus.specs.Address.{moved_place}
 use Rattle.bus.specs.Plan.{planned, plan}
-use Rattle.bus.proofs.Plans.{plan-next}
+use Rattle.bus.proofs.Plans.{plan_next}
 use Rattle.registers.specs.declared.channel.Channel.{Channel}
 use Rattle.registers.specs.declared.channel.Span.{Span}
 use Rattle.registers.specs.declared.list.Entry.{Entry as Buffer}
@@ -17,7 +17,7 @@ use Rattle.runs.specs.Law.{addresses_of, cut, closed_by, more}
 use Rattle.runs.proofs.Parts.{Part, part_of}
 use Rattle.runs.proofs.Written.{with_stop}
 use Rattle.runs.proofs.Effects.{CanFetch}
-use Rattle.runs.proofs.Tables.{Agree, same_entries, fetched_is, entry_in, entries-more, after_entry, Readable}
+use Rattle.runs.proofs.Tables.{Agree, same_entries, fetched_is, entry_in, entries_more, after_entry, Readable}
 
 -- the course of a list's entries
 abbrev pub list_course : Part → Course
@@ -88,8 +88,8 @@ part_empty ch z a r q = rw (z, a, r, q)
 pub signal_mid : (ch : Channel) → eqb ch.current.count 0 ≡ false → is_some (passed ch).signal ≡ false
 signal_mid ch z = rw z
 
-pub signal-next : (ch : Channel) (e : Buffer) → eqb ch.current.count 0 ≡ true → ch.list.active ≡ true → ch.list.reserve ≡ Some e → is_some (passed ch).signal ≡ false
-signal-next ch e z a r = rw (z, a, r)
+pub signal_next : (ch : Channel) (e : Buffer) → eqb ch.current.count 0 ≡ true → ch.list.active ≡ true → ch.list.reserve ≡ Some e → is_some (passed ch).signal ≡ false
+signal_next ch e z a r = rw (z, a, r)
 
 pub signal_empty : (ch : Channel) (q : Bool) → eqb ch.current.count 0 ≡ true → ch.list.active ≡ true → ch.list.reserve ≡ None → closed ch.list ≡ q → is_some (passed ch).signal ≡ q
 signal_empty ch true z a r q = rw (z, a, r, q)

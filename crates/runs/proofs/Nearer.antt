@@ -30,8 +30,8 @@ Nearer c away k None = ⊥
 Nearer c away k (Some w) = c ≢ w.channel → away (unwrap_or w.first k.first.last, w.second) + 1 ≤ away (lasts k)
 
 -- the sides' masks say who asks
-first-asks : (k : Registers) (c : ℕ) → c < 4 → (first_group k).asks c ≡ asks k c
-first-asks k c h =
+first_asks : (k : Registers) (c : ℕ) → c < 4 → (first_group k).asks c ≡ asks k c
+first_asks k c h =
     bits_of_mask (asks k 0) (asks k 1) (asks k 2) (asks k 3) c h
     ∙ below_four (λ c. flag_of (asks k 0) (asks k 1) (asks k 2) (asks k 3) c ≡ asks k c) refl refl refl refl c h
 
@@ -50,7 +50,7 @@ pub first_nearer : (s : State) (c : ℕ) → c < 4 → Slots (lasts s.registers)
     → Nearer c (first_away c) s.registers (choice_of s.registers)
 first_nearer s c h l a =
     let k = s.registers in
-    first_by k c (choice_of k) ((choice_won k).waits_first (a.2 h) a.1 l.0 l.1 c h (first-asks k c h ∙ a.0))
+    first_by k c (choice_of k) ((choice_won k).waits_first (a.2 h) a.1 l.0 l.1 c h (first_asks k c h ∙ a.0))
 
 -- the slot of another channel is another slot
 other_slot : (k : Registers) (n channel s : ℕ) (o : Option ℕ) → 0 < n → ServedBy (first_group k) (second_group k) channel s o → n + 4 ≢ channel → n ≢ s
@@ -95,10 +95,10 @@ outer_quiet : (k : Registers) (o : Option ℕ) (c : ℕ) → c < 4 → asks (cle
 outer_quiet k o = below_four (λ c. asks (cleared_by Two o k) c ≡ false) (closed _ _) (closed _ _) (closed _ _) (closed _ _)
 
 -- after a master clear a channel that still asks is as near as before
-pub first-cleared : (k : Registers) (d : Dma) (o : Option ℕ) (c : ℕ) → c < 4 → asks (cleared_by d o k) c ≡ true
+pub first_cleared : (k : Registers) (d : Dma) (o : Option ℕ) (c : ℕ) → c < 4 → asks (cleared_by d o k) c ≡ true
     → first_away c (lasts (cleared_by d o k)) ≡ first_away c (lasts k)
-first-cleared k One o c h a = absurd (both_ways (asks (cleared_by One o k) c) (first_quiet k o c h) a)
-first-cleared k Two o c h a = absurd (both_ways (asks (cleared_by Two o k) c) (outer_quiet k o c h) a)
+first_cleared k One o c h a = absurd (both_ways (asks (cleared_by One o k) c) (first_quiet k o c h) a)
+first_cleared k Two o c h a = absurd (both_ways (asks (cleared_by Two o k) c) (outer_quiet k o c h) a)
 
 pub second-cleared : (k : Registers) (d : Dma) (o : Option ℕ) (n : ℕ) → n < 4 → asks (cleared_by d o k) (n + 4) ≡ true
     → second_away n (lasts (cleared_by d o k)) ≡ second_away n (lasts k)

@@ -1,7 +1,7 @@
 -- A plain job passes the addresses of its plan, and signals with the last alone.
 use Rattle.std.proofs.Common.{◌≡◌, ℕ, zero, suc, ◌+◌, ◌-◌, ◌%◌, ◌<◌, ◌≤◌, Bool, true, false, cond, not, ◌&&◌, ◌||◌, eqb, ltb, ◌⊎◌, List, [], ◌∷◌, ◌++◌, length, get_or, is_some, Some, None, Option, sym, refl, ap, ◌∙◌, subst, ap₂, inl, inr, add_assoc, zero-add, arith}
 use Rattle.bus.specs.Plan.{planned, plan}
-use Rattle.bus.proofs.Plans.{planned-next, length-plan, get_or-plan}
+use Rattle.bus.proofs.Plans.{planned_next, length-plan, get_or-plan}
 use Rattle.registers.specs.declared.channel.Channel.{Channel}
 use Rattle.registers.specs.declared.list.Signal.{Signal}
 use Rattle.registers.specs.declared.list.Signal.TheVariants.{Eop}
@@ -14,7 +14,7 @@ use Rattle.runs.specs.Words.{Move, move_of, signalled, begins_job}
 use Rattle.runs.specs.Law.{NoneBegins, transfers, Along, PlainJob}
 use Rattle.runs.proofs.Runs.{turn_of}
 use Rattle.runs.proofs.Parts.{Part, part_of}
-use Rattle.runs.proofs.Turns.{from, to, Effect, still, closes, moves, fetches_one, effect, move_passes, begins-signals}
+use Rattle.runs.proofs.Turns.{from, to, Effect, still, closes, moves, fetches_one, effect, move_passes, begins_signals}
 use Rattle.runs.proofs.Sound.{Sound, sound_kept}
 
 -- what is left of a plain job: so many transfers after the next one, at these addresses
@@ -42,15 +42,15 @@ passed_plain ch n f l = go (eqb n 0) refl
     go true q = rw (c₀ ∙ q, l.inactive)
     go false q = rw (c₀ ∙ q)
 
-pub left-next : (ch : Channel) (n : ℕ) (f : ℕ → ℕ) → Left ch n f → eqb n 0 ≡ false → Left (passed ch).channel (n - 1) (λ j. f (1 + j))
-left-next ch n f l q =
+pub left_next : (ch : Channel) (n : ℕ) (f : ℕ → ℕ) → Left ch n f → eqb n 0 ≡ false → Left (passed ch).channel (n - 1) (λ j. f (1 + j))
+left_next ch n f l q =
     let z : eqb ch.current.count 0 ≡ false = ap (λ x. eqb x 0) l.count ∙ q in
     let L : Channel → Type 0 = λ x. Left x (n - 1) (λ j. f (1 + j)) in
     let here : (passed ch).channel ≡ with_current (stepped ch) ch = rw z in
     subst L (sym here) (record {
       inactive = l.inactive;
       count = rw z (ap (λ x. x - 1) l.count);
-      address = λ j. sym (planned-next (course_of ch) ch.current.place j) ∙ l.address (j + 1) ∙ ap f (omega arith);
+      address = λ j. sym (planned_next (course_of ch) ch.current.place j) ∙ l.address (j + 1) ∙ ap f (omega arith);
     })
 
 never : true ≡ false → ⊥
@@ -81,11 +81,11 @@ module _ (c : ℕ) (hc : c < 8) where
       subst P (sym none) (subst Q (sym (zero-add (transfers c (run (performed s k).0 ks)))) (rest n f (same_left _ _ n f p l)))
   row_more s k ks n f b l (closes m g st a ld p) rest = absurd (never (sym a ∙ l.inactive))
   row_more s k ks n f b l (moves m i g st a sg ch r) rest =
-      let quiet : eqb n 0 ≡ false = sym (passed_plain _ n f l) ∙ ap is_some (sym sg) ∙ sym (begins-signals c hc s k m i) ∙ b in
+      let quiet : eqb n 0 ≡ false = sym (passed_plain _ n f l) ∙ ap is_some (sym sg) ∙ sym (begins_signals c hc s k m i) ∙ b in
       let P : ℕ → Type 0 = λ d. Remains (ended s (k ∷ ks)) c n f (d + transfers c (run (performed s k).0 ks)) in
       let one : cond (is_some (move_of c (turn_of s k))) 1 0 ≡ 1 = rw i in
       let L : Channel → Type 0 = λ x. Left x (n - 1) (λ j. f (1 + j)) in
-      subst P (sym one) (one_less (ended s (k ∷ ks)) c n f _ quiet (rest (n - 1) (λ j. f (1 + j)) (subst L (sym ch) (left-next _ n f l quiet))))
+      subst P (sym one) (one_less (ended s (k ∷ ks)) c n f _ quiet (rest (n - 1) (λ j. f (1 + j)) (subst L (sym ch) (left_next _ n f l quiet))))
   row_more s k ks n f b l (fetches_one x m g st e ch can w) rest = absurd (never (sym can.0 ∙ l.inactive))
 
   plain_row : (s : State) (ks : List Call) (n : ℕ) (f : ℕ → ℕ) → Sound s.registers → NoneBegins c (run s ks) → Left (channel_of s.registers c) n f
@@ -96,11 +96,11 @@ module _ (c : ℕ) (hc : c < 8) where
       row_more s k ks n f b.0 l (effect c hc s k h b.0) (λ n' f' l'. plain_row (performed s k).0 ks n' f' (sound_kept s k h) b.1 l')
 
   -- the registers at a job's start are what is left of it
-  at-start : (ch : Channel) → ch.list.active ≡ false → Left ch ch.current.count (planned (course_of ch) ch.current.place)
-  at-start ch e = record { inactive = e; count = refl; address = λ j. refl }
+  at_start : (ch : Channel) → ch.list.active ≡ false → Left ch ch.current.count (planned (course_of ch) ch.current.place)
+  at_start ch e = record { inactive = e; count = refl; address = λ j. refl }
 
-  signal-last : (n d : ℕ) → d ≤ n → eqb (n - d) 0 ≡ eqb (d + 1) (suc n)
-  signal-last n d h = grind arith
+  signal_last : (n d : ℕ) → d ≤ n → eqb (n - d) 0 ≡ eqb (d + 1) (suc n)
+  signal_last n d h = grind arith
 
   pub plain_job : (s : State) (ks : List Call) (k : Call) (m : Move) → Sound s.registers → NoneBegins c (run s ks) → move_of c (turn_of (ended s ks) k) ≡ Some m
       → PlainJob c s (run s ks) m
@@ -109,12 +109,12 @@ module _ (c : ℕ) (hc : c < 8) where
       let done = transfers c (run s ks) in
       let n = ch.current.count in
       let f = planned (course_of ch) ch.current.place in
-      let r = plain_row s ks n f h b (at-start ch off) in
+      let r = plain_row s ks n f h b (at_start ch off) in
       let p = move_passes c hc (ended s ks) k m r.2 e in
       let below : done < suc n = (let q = r.0 in omega arith) in
       let long : length (plan (course_of ch) ch.current.place (suc n)) ≡ suc n = length-plan (course_of ch) ch.current.place (suc n) in
       record {
         within = rw long below;
         address = p.0 ∙ r.1.address 0 ∙ ap f (omega arith) ∙ sym (get_or-plan (course_of ch) ch.current.place (suc n) done below);
-        signals = ap is_some p.1 ∙ passed_plain _ (n - done) _ r.1 ∙ signal-last n done r.0 ∙ ap (λ x. eqb (done + 1) x) (sym long);
+        signals = ap is_some p.1 ∙ passed_plain _ (n - done) _ r.1 ∙ signal_last n done r.0 ∙ ap (λ x. eqb (done + 1) x) (sym long);
       }

@@ -56,36 +56,36 @@ either s true x y a b = a
 either s false x y a b = b
 
 -- what a fault does to its channel carries nothing more
-settled-carries : (s : State) (c : ℕ) (p : State × Result Event Fault) → StepCarries s p → StepCarries s (settled c p)
-settled-carries s c (t, Ok e) x = x
-settled-carries s c (t, Err f) x = x
+settled_carries : (s : State) (c : ℕ) (p : State × Result Event Fault) → StepCarries s p → StepCarries s (settled c p)
+settled_carries s c (t, Ok e) x = x
+settled_carries s c (t, Err f) x = x
 
-serve-carries : (s : State) (k : Registers) (c : ℕ) → channel_of k c ≡ channel_of s.registers c → StepCarries s (serve (with_registers k s) c)
-serve-carries s k c e = let t = with_registers k s in
-    settled-carries s c (service_of t c)
+serve_carries : (s : State) (k : Registers) (c : ℕ) → channel_of k c ≡ channel_of s.registers c → StepCarries s (serve (with_registers k s) c)
+serve_carries s k c e = let t = with_registers k s in
+    settled_carries s c (service_of t c)
     (either s (is_cascade (channel_of k c).mode.service) (lends t c) _ (nothing s.world)
     (either s ((channel_of k c).list.active && not (channel_of k c).list.loaded) (fetch_step t c) (transfer_of t c)
     (fetch_carries s k c (fetch_of s.world.kinds s.world.bytes c (channel_of k c).list)) (transfer_carries s k c e)))
 
 -- a service that begins leaves the channels as they were
-pub begun-channel : (w : Choice) (k : Registers) (c : ℕ) → channel_of (begun w k) c ≡ channel_of k c
-begun-channel w k c = by-group (ltb c 4)
+pub begun_channel : (w : Choice) (k : Registers) (c : ℕ) → channel_of (begun w k) c ≡ channel_of k c
+begun_channel w k c = by_group (ltb c 4)
   where
-    by-group : (q : Bool) → slot_of (cond q (begun w k).first (begun w k).second) c ≡ slot_of (cond q k.first k.second) c
-    by-group true = refl
-    by-group false = refl
+    by_group : (q : Bool) → slot_of (cond q (begun w k).first (begun w k).second) c ≡ slot_of (cond q k.first k.second) c
+    by_group true = refl
+    by_group false = refl
 
 ahead_carries : (s : State) (k : Registers) (o : Option ℕ) → StepCarries s (ahead_of (with_registers k s) o)
 ahead_carries s k None = nothing s.world
-ahead_carries s k (Some c) = settled-carries s c _ (fetch_carries s k c (fetch_of s.world.kinds s.world.bytes c (channel_of k c).list))
+ahead_carries s k (Some c) = settled_carries s c _ (fetch_carries s k c (fetch_of s.world.kinds s.world.bytes c (channel_of k c).list))
 
-choose-carries : (s : State) (o : Option Choice) → StepCarries s (choose_of s o)
-choose-carries s (Some w) = serve-carries s (begun w s.registers) w.channel (begun-channel w s.registers w.channel)
-choose-carries s None = ahead_carries s (with_service None s.registers) (first_fetching s.registers)
+choose_carries : (s : State) (o : Option Choice) → StepCarries s (choose_of s o)
+choose_carries s (Some w) = serve_carries s (begun w s.registers) w.channel (begun_channel w s.registers w.channel)
+choose_carries s None = ahead_carries s (with_service None s.registers) (first_fetching s.registers)
 
 go_carries : (s : State) (o : Option ℕ) → StepCarries s (go_or_choose s o)
-go_carries s (Some c) = serve-carries s s.registers c refl
-go_carries s None = choose-carries s (choice_of s.registers)
+go_carries s (Some c) = serve_carries s s.registers c refl
+go_carries s None = choose_carries s (choice_of s.registers)
 
 at_carries : (s : State) (b : Bus) → StepCarries s (step_at s b)
 at_carries s Home = go_carries s (ongoing s.registers s.registers.service)

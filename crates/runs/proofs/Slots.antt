@@ -43,8 +43,8 @@ channel_with k c d x f hc hd = go (ltb c 4) (ltb d 4) refl refl
         let e : eqb (c % 4) (d % 4) ≡ eqb c d = grind arith in
         rw (p, q) (slot_set k.second c d x f.1 ∙ ap (λ b. cond b x (slot_of k.second c)) e)
 
-pub channel-same : (k : Registers) (c : ℕ) (x : Channel) → Four k → c < 8 → channel_of (with_channel c x k) c ≡ x
-channel-same k c x f h = let e : eqb c c ≡ true = grind arith in channel_with k c c x f h h ∙ rw e
+pub channel_same : (k : Registers) (c : ℕ) (x : Channel) → Four k → c < 8 → channel_of (with_channel c x k) c ≡ x
+channel_same k c x f h = let e : eqb c c ≡ true = grind arith in channel_with k c c x f h h ∙ rw e
 
 pub channel_other : (k : Registers) (c d : ℕ) (x : Channel) → Four k → c < 8 → d < 8 → eqb c d ≡ false → channel_of (with_channel d x k) c ≡ channel_of k c
 channel_other k c d x f h j e = channel_with k c d x f h j ∙ rw e

@@ -80,10 +80,10 @@ fetched_is k f c a x e = go (readable k a)
     go (inr h) = let z : Ok x ≡ Err (h f c).0 = sym e ∙ (h f c).1 in let n : ◌≡◌ {A = ℕ} 0 1 = cc in absurd (omega arith)
 
 -- the entries from a readable one on, and from one that is not
-pub entries-more : (n : ℕ) (o : Outside) (a : ℕ) → Readable o.kinds a
+pub entries_more : (n : ℕ) (o : Outside) (a : ℕ) → Readable o.kinds a
     → entries_from (suc n) o a ≡ cond (entry_in o.bytes a).last (entry_in o.bytes a ∷ []) (entry_in o.bytes a ∷ entries_from n o (after_entry a))
 unfolding entries_from
-entries-more n o a r = rw (entry_read o.kinds o.bytes 0 a r)
+entries_more n o a r = rw (entry_read o.kinds o.bytes 0 a r)
 
 entries_none : (n : ℕ) (o : Outside) (a : ℕ) → ((f : ℕ → ℕ) (c : ℕ) → (e : Fault) × (entry_at o.kinds f c a ≡ Err e)) → entries_from (suc n) o a ≡ []
 unfolding entries_from
@@ -107,25 +107,25 @@ more-places : (q : Bool) (x : Entry) (rest : List Entry) → 8 * length (cond q 
 more-places true x rest = refl
 more-places false x rest = eight_more (length rest)
 
-rest-same : (q : Bool) (x : Entry) (us vs : List Entry) → (q ≡ false → us ≡ vs) → cond q (x ∷ []) (x ∷ us) ≡ cond q (x ∷ []) (x ∷ vs)
-rest-same true x us vs h = refl
-rest-same false x us vs h = ap (λ l. x ∷ l) (h refl)
+rest_same : (q : Bool) (x : Entry) (us vs : List Entry) → (q ≡ false → us ≡ vs) → cond q (x ∷ []) (x ∷ us) ≡ cond q (x ∷ []) (x ∷ vs)
+rest_same true x us vs h = refl
+rest_same false x us vs h = ap (λ l. x ∷ l) (h refl)
 
 same_from : (n : ℕ) (o p : Outside) (a : ℕ) → p.kinds ≡ o.kinds → Readable o.kinds a
     → Agree o.bytes p.bytes (places (8 * length (entries_from (suc n) o a)) a)
     → (Agree o.bytes p.bytes (places (8 * length (entries_from n o (after_entry a))) (after_entry a)) → entries_from n p (after_entry a) ≡ entries_from n o (after_entry a))
     → entries_from (suc n) p a ≡ entries_from (suc n) o a
 same_from n o p a ks r agree rest =
-    entries-more n p a there
+    entries_more n p a there
     ∙ ap (λ (x : Entry). cond x.last (x ∷ []) (x ∷ entries_from n p (after_entry a))) same
-    ∙ rest-same (entry_in o.bytes a).last (entry_in o.bytes a) (entries_from n p (after_entry a)) (entries_from n o (after_entry a)) on
-    ∙ sym (entries-more n o a r)
+    ∙ rest_same (entry_in o.bytes a).last (entry_in o.bytes a) (entries_from n p (after_entry a)) (entries_from n o (after_entry a)) on
+    ∙ sym (entries_more n o a r)
   where
     there : Readable p.kinds a
     there = (let P : (ℕ → Kind) → Type 0 = λ k. Readable k a in subst P (sym ks) r)
 
     here : Agree o.bytes p.bytes (places (8 * length (cond (entry_in o.bytes a).last (entry_in o.bytes a ∷ []) (entry_in o.bytes a ∷ entries_from n o (after_entry a)))) a)
-    here = (let P : List Entry → Type 0 = λ es. Agree o.bytes p.bytes (places (8 * length es) a) in subst P (entries-more n o a r) agree)
+    here = (let P : List Entry → Type 0 = λ es. Agree o.bytes p.bytes (places (8 * length es) a) in subst P (entries_more n o a r) agree)
 
     eight : Agree o.bytes p.bytes (places (suc (suc (suc (suc (suc (suc (suc (suc (8 * cond (entry_in o.bytes a).last 0 (length (entries_from n o (after_entry a)))))))))))) a)
     eight = (let P : ℕ → Type 0 = λ m. Agree o.bytes p.bytes (places m a) in subst P (more-places (entry_in o.bytes a).last (entry_in o.bytes a) (entries_from n o (after_entry a))) here)

@@ -24,8 +24,8 @@ use Rattle.runs.proofs.Slots.{Four}
 use Rattle.runs.proofs.Parts.{Part, part_of}
 use Rattle.runs.proofs.Ports.{port_reaches}
 use Rattle.runs.proofs.Written.{with_stop, Accessed, quiet, halts, write_effect, read_leaves_lem, lined_leaves}
-use Rattle.runs.proofs.Effects.{Ready, CanFetch, Stepped, rests, goes, gets, serve-steps, ahead_steps}
-use Rattle.runs.proofs.Served.{begun-channel}
+use Rattle.runs.proofs.Effects.{Ready, CanFetch, Stepped, rests, goes, gets, serve_steps, ahead_steps}
+use Rattle.runs.proofs.Served.{begun_channel}
 use Rattle.runs.proofs.Sound.{Serviced, Sound, chosen_below, Fetching, ahead_below, ongoing_below}
 
 -- the registers of channel c before and after a turn
@@ -58,38 +58,38 @@ module _ (c : ℕ) (hc : c < 8) where
       let f : Fetching s.registers (Some d) = subst P e (ahead_below s.registers) in
       ahead_steps c hc (with_registers (with_service None s.registers) s) d h.0 f.0 f.1
 
-  choose-step : (s : State) (o : Option Choice) → choice_of s.registers ≡ o → Sound s.registers → Stepped c (channel_of s.registers c) s.world (choose_of s o)
-  choose-step s (Some w) e h =
+  choose_step : (s : State) (o : Option Choice) → choice_of s.registers ≡ o → Sound s.registers → Stepped c (channel_of s.registers c) s.world (choose_of s o)
+  choose_step s (Some w) e h =
       let P : Channel → Type 0 = λ x. Stepped c x s.world (choose_of s (Some w)) in
-      subst P (begun-channel w s.registers c) (serve-steps c hc (with_registers (begun w s.registers) s) w.channel h.0 (chosen_below s.registers w e))
-  choose-step s None e h = ahead_step s (first_fetching s.registers) refl h
+      subst P (begun_channel w s.registers c) (serve_steps c hc (with_registers (begun w s.registers) s) w.channel h.0 (chosen_below s.registers w e))
+  choose_step s None e h = ahead_step s (first_fetching s.registers) refl h
 
   go_step : (s : State) (o : Option ℕ) → Serviced o → Sound s.registers → Stepped c (channel_of s.registers c) s.world (go_or_choose s o)
-  go_step s (Some d) b h = serve-steps c hc s d h.0 b
-  go_step s None b h = choose-step s (choice_of s.registers) refl h
+  go_step s (Some d) b h = serve_steps c hc s d h.0 b
+  go_step s None b h = choose_step s (choice_of s.registers) refl h
 
-  at-step : (s : State) (b : Bus) → Sound s.registers → Stepped c (channel_of s.registers c) s.world (step_at s b)
-  at-step s Home h = go_step s (ongoing s.registers s.registers.service) (ongoing_below s.registers s.registers.service h.1) h
-  at-step s (Out d) h = rests refl refl refl
-  at-step s (Taken d) h = rests refl refl refl
+  at_step : (s : State) (b : Bus) → Sound s.registers → Stepped c (channel_of s.registers c) s.world (step_at s b)
+  at_step s Home h = go_step s (ongoing s.registers s.registers.service) (ongoing_below s.registers s.registers.service h.1) h
+  at_step s (Out d) h = rests refl refl refl
+  at_step s (Taken d) h = rests refl refl refl
 
   pub step_effect : (s : State) → Sound s.registers → Stepped c (channel_of s.registers c) s.world (step_of s)
-  step_effect s h = at-step s s.bus h
+  step_effect s h = at_step s s.bus h
 
-  by-step : (s : State) → Stepped c (channel_of s.registers c) s.world (step_of s) → Effect c (turn_of s call.Step)
-  by-step s (rests m g p) = still m g (inl refl) p
-  by-step s (goes m i g a sg ch r) = moves m i g refl a sg ch r
-  by-step s (gets x m g e ch can w) = fetches_one x m g refl e ch can w
+  by_step : (s : State) → Stepped c (channel_of s.registers c) s.world (step_of s) → Effect c (turn_of s call.Step)
+  by_step s (rests m g p) = still m g (inl refl) p
+  by_step s (goes m i g a sg ch r) = moves m i g refl a sg ch r
+  by_step s (gets x m g e ch can w) = fetches_one x m g refl e ch can w
 
-  by-write : (s : State) (p v : ℕ) → Accessed c s.registers (stops c (turn_of s (call.Write p v))) (written p v s.registers) → Effect c (turn_of s (call.Write p v))
-  by-write s p v (quiet st h) = still refl refl st h
-  by-write s p v (halts st a l h) = closes refl refl st a l h
+  by_write : (s : State) (p v : ℕ) → Accessed c s.registers (stops c (turn_of s (call.Write p v))) (written p v s.registers) → Effect c (turn_of s (call.Write p v))
+  by_write s p v (quiet st h) = still refl refl st h
+  by_write s p v (halts st a l h) = closes refl refl st a l h
 
   pub effect : (s : State) (k : Call) → Sound s.registers → begins_job c (turn_of s k) ≡ false → Effect c (turn_of s k)
-  effect s (call.Write p v) h e = by-write s p v (write_effect s.registers c h.0 hc s (write_port p) v refl (port_reaches p) e)
+  effect s (call.Write p v) h e = by_write s p v (write_effect s.registers c h.0 hc s (write_port p) v refl (port_reaches p) e)
   effect s (call.Read p) h e = still refl refl (inl refl) (read_leaves_lem s.registers c (read_port p))
   effect s (call.Lines b) h e = still refl refl (inl refl) (lined_leaves s.registers c b)
-  effect s call.Step h e = by-step s (step_effect s h)
+  effect s call.Step h e = by_step s (step_effect s h)
   effect s (call.Inspect d) h e = still refl refl (inl refl) refl
   effect s call.Take h e = still refl refl (inl refl) refl
   effect s (call.Cycle x) h e = still refl refl (inl refl) (go (holds s.bus (out_to s.bus)))
@@ -108,36 +108,36 @@ module _ (c : ℕ) (hc : c < 8) where
   abbrev pub Passes : Channel → Move → Type 0
   Passes ch m = (m.address ≡ passes ch) × (m.signal ≡ (passed ch).signal) × Ready ch
 
-  step-passes : (s : State) (m : Move) → Stepped c (channel_of s.registers c) s.world (step_of s) → move_of c (turn_of s call.Step) ≡ Some m → Passes (channel_of s.registers c) m
-  step-passes s m (rests i g p) e = let z : Some m ≡ None = sym e ∙ i in let n : ◌≡◌ {A = ℕ} 0 1 = cc in absurd (omega arith)
-  step-passes s m (goes j i g a sg ch r) e =
+  step_passes : (s : State) (m : Move) → Stepped c (channel_of s.registers c) s.world (step_of s) → move_of c (turn_of s call.Step) ≡ Some m → Passes (channel_of s.registers c) m
+  step_passes s m (rests i g p) e = let z : Some m ≡ None = sym e ∙ i in let n : ◌≡◌ {A = ℕ} 0 1 = cc in absurd (omega arith)
+  step_passes s m (goes j i g a sg ch r) e =
       let same : j ≡ m = (let z : Some j ≡ Some m = sym i ∙ e in cc) in
       (ap (λ (x : Move). x.address) (sym same) ∙ a, ap (λ (x : Move). x.signal) (sym same) ∙ sg, r)
-  step-passes s m (gets x i g f ch can w) e = let z : Some m ≡ None = sym e ∙ i in let n : ◌≡◌ {A = ℕ} 0 1 = cc in absurd (omega arith)
+  step_passes s m (gets x i g f ch can w) e = let z : Some m ≡ None = sym e ∙ i in let n : ◌≡◌ {A = ℕ} 0 1 = cc in absurd (omega arith)
 
-  none-moved : (m : Move) (ch : Channel) → None ≡ Some m → Passes ch m
-  none-moved m ch e = let n : ◌≡◌ {A = ℕ} 0 1 = cc in absurd (omega arith)
+  none_moved : (m : Move) (ch : Channel) → None ≡ Some m → Passes ch m
+  none_moved m ch e = let n : ◌≡◌ {A = ℕ} 0 1 = cc in absurd (omega arith)
 
   pub move_passes : (s : State) (k : Call) (m : Move) → Sound s.registers → move_of c (turn_of s k) ≡ Some m → Passes (channel_of s.registers c) m
-  move_passes s (call.Write p v) m h e = none-moved m (channel_of s.registers c) e
-  move_passes s (call.Read p) m h e = none-moved m (channel_of s.registers c) e
-  move_passes s (call.Lines b) m h e = none-moved m (channel_of s.registers c) e
-  move_passes s call.Step m h e = step-passes s m (step_effect s h) e
-  move_passes s (call.Inspect d) m h e = none-moved m (channel_of s.registers c) e
-  move_passes s call.Take m h e = none-moved m (channel_of s.registers c) e
-  move_passes s (call.Cycle x) m h e = none-moved m (channel_of s.registers c) e
-  move_passes s call.Release m h e = none-moved m (channel_of s.registers c) e
+  move_passes s (call.Write p v) m h e = none_moved m (channel_of s.registers c) e
+  move_passes s (call.Read p) m h e = none_moved m (channel_of s.registers c) e
+  move_passes s (call.Lines b) m h e = none_moved m (channel_of s.registers c) e
+  move_passes s call.Step m h e = step_passes s m (step_effect s h) e
+  move_passes s (call.Inspect d) m h e = none_moved m (channel_of s.registers c) e
+  move_passes s call.Take m h e = none_moved m (channel_of s.registers c) e
+  move_passes s (call.Cycle x) m h e = none_moved m (channel_of s.registers c) e
+  move_passes s call.Release m h e = none_moved m (channel_of s.registers c) e
 
   -- a transfer begins the next job of its channel if it signals
-  none-begins : (m : Move) (b : Bool) → None ≡ Some m → b ≡ is_some m.signal
-  none-begins m b e = let n : ◌≡◌ {A = ℕ} 0 1 = cc in absurd (omega arith)
+  none_begins : (m : Move) (b : Bool) → None ≡ Some m → b ≡ is_some m.signal
+  none_begins m b e = let n : ◌≡◌ {A = ℕ} 0 1 = cc in absurd (omega arith)
 
-  pub begins-signals : (s : State) (k : Call) (m : Move) → move_of c (turn_of s k) ≡ Some m → begins_job c (turn_of s k) ≡ is_some m.signal
-  begins-signals s (call.Write p v) m e = none-begins m _ e
-  begins-signals s (call.Read p) m e = none-begins m _ e
-  begins-signals s (call.Lines b) m e = none-begins m _ e
-  begins-signals s call.Step m e = ap signalled e
-  begins-signals s (call.Inspect d) m e = none-begins m _ e
-  begins-signals s call.Take m e = none-begins m _ e
-  begins-signals s (call.Cycle x) m e = none-begins m _ e
-  begins-signals s call.Release m e = none-begins m _ e
+  pub begins_signals : (s : State) (k : Call) (m : Move) → move_of c (turn_of s k) ≡ Some m → begins_job c (turn_of s k) ≡ is_some m.signal
+  begins_signals s (call.Write p v) m e = none_begins m _ e
+  begins_signals s (call.Read p) m e = none_begins m _ e
+  begins_signals s (call.Lines b) m e = none_begins m _ e
+  begins_signals s call.Step m e = ap signalled e
+  begins_signals s (call.Inspect d) m e = none_begins m _ e
+  begins_signals s call.Take m e = none_begins m _ e
+  begins_signals s (call.Cycle x) m e = none_begins m _ e
+  begins_signals s call.Release m e = none_begins m _ e

@@ -20,7 +20,7 @@ use Rattle.runs.proofs.Runs.{drop-run, take-run, kept}
 use Rattle.runs.proofs.Lasts.{lasts, Left, stay, clear, write_left, read_stays, lines_stay}
 use Rattle.runs.proofs.Serving.{serve_leaves, cycle_leaves, release_leaves}
 use Rattle.runs.proofs.Chosen.{Slots, slots_kept}
-use Rattle.runs.proofs.Nearer.{first_away, second_away, Nearer, cleared_by, first_nearer, second_nearer, first-cleared, second-cleared}
+use Rattle.runs.proofs.Nearer.{first_away, second_away, Nearer, cleared_by, first_nearer, second_nearer, first_cleared, second-cleared}
 
 -- ONE CALL --------------------------------------------------------------------------------------------------------
 
@@ -32,44 +32,44 @@ module _ (c : ℕ) (away : ℕ × ℕ → ℕ)
   abbrev Falls : Registers → Option ℕ → Registers → Type 0
   Falls k o m = (n : ℕ) → n ≤ away (lasts m) → waited c o n ≤ away (lasts k)
 
-  falls-stay : {l m : ℕ × ℕ} → m ≡ l → (n : ℕ) → n ≤ away m → n ≤ away l
-  falls-stay e n h = subst (λ x. n ≤ away x) e h
+  falls_stay : {l m : ℕ × ℕ} → m ≡ l → (n : ℕ) → n ≤ away m → n ≤ away l
+  falls_stay e n h = subst (λ x. n ≤ away x) e h
 
-  falls-left : (k m : Registers) → Left k m → asks m c ≡ true → Falls k None m
-  falls-left k m (stay e) a n h = falls-stay e n h
-  falls-left k m (clear d o) a n h = omega (arith, clears k d o a)
+  falls_left : (k m : Registers) → Left k m → asks m c ≡ true → Falls k None m
+  falls_left k m (stay e) a n h = falls_stay e n h
+  falls_left k m (clear d o) a n h = omega (arith, clears k d o a)
 
-  falls-other : (d n x y : ℕ) (q : Bool) → eqb c d ≡ q → (c ≢ d → x + 1 ≤ y) → n ≤ x → cond q 0 (1 + n) ≤ y
-  falls-other d n x y true q f h = omega arith
-  falls-other d n x y false q f h = omega (arith, f (eqb-false c d q))
+  falls_other : (d n x y : ℕ) (q : Bool) → eqb c d ≡ q → (c ≢ d → x + 1 ≤ y) → n ≤ x → cond q 0 (1 + n) ≤ y
+  falls_other d n x y true q f h = omega arith
+  falls_other d n x y false q f h = omega (arith, f (eqb-false c d q))
 
-  falls-chosen : (s : State) (r : Option Choice) → Nearer c away s.registers r → Falls s.registers (chosen_channel r) (choose_of s r).0.registers
-  falls-chosen s None f n h = absurd f
-  falls-chosen s (Some w) f n h =
+  falls_chosen : (s : State) (r : Option Choice) → Nearer c away s.registers r → Falls s.registers (chosen_channel r) (choose_of s r).0.registers
+  falls_chosen s None f n h = absurd f
+  falls_chosen s (Some w) f n h =
       let k = s.registers in
-      falls-other w.channel n (away (lasts (begun w k))) (away (lasts k)) (eqb c w.channel) refl f
-      (falls-stay (serve_leaves (with_registers (begun w k) s) w.channel) n h)
+      falls_other w.channel n (away (lasts (begun w k))) (away (lasts k)) (eqb c w.channel) refl f
+      (falls_stay (serve_leaves (with_registers (begun w k) s) w.channel) n h)
 
-  falls-go : (s : State) (o : Option ℕ) → Nearer c away s.registers (choice_of s.registers)
+  falls_go : (s : State) (o : Option ℕ) → Nearer c away s.registers (choice_of s.registers)
       → Falls s.registers (unless_ongoing o (chosen_channel (choice_of s.registers))) (go_or_choose s o).0.registers
-  falls-go s (Some d) f = falls-stay (serve_leaves s d)
-  falls-go s None f = falls-chosen s (choice_of s.registers) f
+  falls_go s (Some d) f = falls_stay (serve_leaves s d)
+  falls_go s None f = falls_chosen s (choice_of s.registers) f
 
-  falls-step : (s : State) (b : Bus) → Nearer c away s.registers (choice_of s.registers) → Falls s.registers (begun_at s b) (step_at s b).0.registers
-  falls-step s Home f = falls-go s (ongoing s.registers s.registers.service) f
-  falls-step s (Out d) f = λ n h. h
-  falls-step s (Taken d) f = λ n h. h
+  falls_step : (s : State) (b : Bus) → Nearer c away s.registers (choice_of s.registers) → Falls s.registers (begun_at s b) (step_at s b).0.registers
+  falls_step s Home f = falls_go s (ongoing s.registers s.registers.service) f
+  falls_step s (Out d) f = λ n h. h
+  falls_step s (Taken d) f = λ n h. h
 
   falls : (s : State) (k : Call) → Slots (lasts s.registers) → Asking c s → Asking c (performed s k).0
       → Falls s.registers (service_in s k) (performed s k).0.registers
-  falls s (call.Write p v) l a b = falls-left s.registers _ (write_left p v s.registers) b.0
-  falls s (call.Read p) l a b = falls-stay (read_stays p s.registers)
-  falls s (call.Lines v) l a b = falls-stay (lines_stay v s.registers)
-  falls s call.Step l a b = falls-step s s.bus (nears s l a)
+  falls s (call.Write p v) l a b = falls_left s.registers _ (write_left p v s.registers) b.0
+  falls s (call.Read p) l a b = falls_stay (read_stays p s.registers)
+  falls s (call.Lines v) l a b = falls_stay (lines_stay v s.registers)
+  falls s call.Step l a b = falls_step s s.bus (nears s l a)
   falls s (call.Inspect d) l a b = λ n h. h
   falls s call.Take l a b = λ n h. h
-  falls s (call.Cycle x) l a b = falls-stay (cycle_leaves s (out_to s.bus) x)
-  falls s call.Release l a b = falls-stay (release_leaves s (out_to s.bus))
+  falls s (call.Cycle x) l a b = falls_stay (cycle_leaves s (out_to s.bus) x)
+  falls s call.Release l a b = falls_stay (release_leaves s (out_to s.bus))
 
   -- no more others come first in a row than could at its start
   row : (s : State) (ks : List Call) → Slots (lasts s.registers) → KeepsAsking c (run s ks) → others_first c (run s ks) ≤ away (lasts s.registers)
@@ -88,15 +88,15 @@ module _ (c : ℕ) (away : ℕ × ℕ → ℕ)
 -- THE BOUNDS ------------------------------------------------------------------------------------------------------
 
 -- in every run, from slots last chosen: channels 5 to 7 wait for at most three others, 0 to 3 for at most fifteen
-second-waits : (s : State) (ks : List Call) → Slots (lasts s.registers) → (m i n : ℕ) → 0 < m → m < 4
+second_waits : (s : State) (ks : List Call) → Slots (lasts s.registers) → (m i n : ℕ) → 0 < m → m < 4
     → KeepsAsking (m + 4) (take n (drop i (run s ks))) → others_first (m + 4) (take n (drop i (run s ks))) ≤ 3
-second-waits s ks l m i n p h =
+second_waits s ks l m i n p h =
     rows (m + 4) (second_away m) (λ t. second_nearer t m p h) (λ k d o. second-cleared k d o m h) s ks i n 3 (λ x. gap_bound m x.1) l
 
-first-waits : (s : State) (ks : List Call) → Slots (lasts s.registers) → (c i n : ℕ) → c < 4
+first_waits : (s : State) (ks : List Call) → Slots (lasts s.registers) → (c i n : ℕ) → c < 4
     → KeepsAsking c (take n (drop i (run s ks))) → others_first c (take n (drop i (run s ks))) ≤ 15
-first-waits s ks l c i n h =
-    rows c (first_away c) (λ t. first_nearer t c h) (λ k d o. first-cleared k d o c h) s ks i n 15 (λ x. distance_bound c x.0 x.1) l
+first_waits s ks l c i n h =
+    rows c (first_away c) (λ t. first_nearer t c h) (λ k d o. first_cleared k d o c h) s ks i n 15 (λ x. distance_bound c x.0 x.1) l
 
 pub waiting : (s : State) (ks : List Call) → s.registers.first.last < 4 → s.registers.second.last < 4 → Waiting (run s ks)
 waiting s ks f g =
@@ -105,6 +105,6 @@ waiting s ks f g =
       second = λ c i n p h.
           let e : c - 4 + 4 ≡ c = omega arith in
           subst (λ x. KeepsAsking x (take n (drop i (run s ks))) → others_first x (take n (drop i (run s ks))) ≤ 3) e
-          (second-waits s ks l (c - 4) i n (omega arith) (omega arith));
-      first = first-waits s ks l;
+          (second_waits s ks l (c - 4) i n (omega arith) (omega arith));
+      first = first_waits s ks l;
     }

@@ -19,7 +19,7 @@ use Rattle.registers.specs.Groups.{slot_of, flipped, with_command, with_pointer,
 use Rattle.registers.specs.File.{channel_of, with_channel, with_service, at_first, at_second, at_group_of, at_dma, programmed, picked, over, over_in, accepted_at, written_at, written_for, refusal_for, refusal_at, control_written, field_written, list_written, read_for, read_at, field_read, lined}
 use Rattle.controller.specs.Steps.{State}
 use Rattle.runs.specs.Words.{in_group, field_begins, control_begins, list_begins_for, write_begins, stop_at}
-use Rattle.runs.proofs.Slots.{Four, channel_with, channel-same, channel_other}
+use Rattle.runs.proofs.Slots.{Four, channel_with, channel_same, channel_other}
 use Rattle.runs.proofs.Parts.{Part, part_of, Leaves, each_leaves, first_leaves, second_leaves}
 use Rattle.runs.proofs.Ports.{Reaches, ReachesIf, picked_below}
 
@@ -96,56 +96,56 @@ clear_leaves Two k c e = go (ltb c 4) refl
     go false q = let no_way : ⊥ = (let z : true ≡ false = (rw q at e) in let n : ◌≡◌ {A = ℕ} 0 1 = cc in omega arith) in absurd no_way
 
 module _ (k : Registers) (c : ℕ) (f : Four k) (hc : c < 8) where
-  field-effect : (x : Field) (d v : ℕ) → d < 8 → (field_begins x && eqb c d) ≡ false → part_of (channel_of (field_written x d v k) c) ≡ part_of (channel_of k c)
-  field-effect Address d v hd e = flip_leaves d c _ ∙ other k c d _ f hc hd e
-  field-effect Count d v hd e = flip_leaves d c _ ∙ other k c d _ f hc hd e
-  field-effect LowPage d v hd e = other k c d _ f hc hd e
-  field-effect HighPage d v hd e = other k c d _ f hc hd e
-  field-effect (Table n) d v hd e = own k c d _ f hc hd (table_leaves n v (channel_of k d))
+  field_effect : (x : Field) (d v : ℕ) → d < 8 → (field_begins x && eqb c d) ≡ false → part_of (channel_of (field_written x d v k) c) ≡ part_of (channel_of k c)
+  field_effect Address d v hd e = flip_leaves d c _ ∙ other k c d _ f hc hd e
+  field_effect Count d v hd e = flip_leaves d c _ ∙ other k c d _ f hc hd e
+  field_effect LowPage d v hd e = other k c d _ f hc hd e
+  field_effect HighPage d v hd e = other k c d _ f hc hd e
+  field_effect (Table n) d v hd e = own k c d _ f hc hd (table_leaves n v (channel_of k d))
 
-  control-effect : (x : Control) (d : Dma) (v : ℕ) → control_begins x d v c ≡ false → part_of (channel_of (control_written x d v k) c) ≡ part_of (channel_of k c)
-  control-effect Command d v e = dma_leaves (with_command v) d k c (λ g n. refl)
-  control-effect Request d v e = own k c (picked d v) _ f hc (picked_below d v) refl
-  control-effect Mask d v e = own k c (picked d v) _ f hc (picked_below d v) refl
-  control-effect Mode d v e = other k c (picked d v) _ f hc (picked_below d v) e
-  control-effect ExtendedMode d v e = other k c (picked d v) _ f hc (picked_below d v) e
-  control-effect ClearPointer d v e = dma_leaves (with_pointer false) d k c (λ g n. refl)
-  control-effect MasterClear d v e = clear_leaves d k c e
-  control-effect ClearMasks d v e = dma_leaves (with_masks 0) d k c (masks_leave 0)
-  control-effect AllMasks d v e = dma_leaves (with_masks v) d k c (masks_leave v)
+  control_effect : (x : Control) (d : Dma) (v : ℕ) → control_begins x d v c ≡ false → part_of (channel_of (control_written x d v k) c) ≡ part_of (channel_of k c)
+  control_effect Command d v e = dma_leaves (with_command v) d k c (λ g n. refl)
+  control_effect Request d v e = own k c (picked d v) _ f hc (picked_below d v) refl
+  control_effect Mask d v e = own k c (picked d v) _ f hc (picked_below d v) refl
+  control_effect Mode d v e = other k c (picked d v) _ f hc (picked_below d v) e
+  control_effect ExtendedMode d v e = other k c (picked d v) _ f hc (picked_below d v) e
+  control_effect ClearPointer d v e = dma_leaves (with_pointer false) d k c (λ g n. refl)
+  control_effect MasterClear d v e = clear_leaves d k c e
+  control_effect ClearMasks d v e = dma_leaves (with_masks 0) d k c (masks_leave 0)
+  control_effect AllMasks d v e = dma_leaves (with_masks v) d k c (masks_leave v)
 
   -- a list command of channel c itself
-  command-effect : (v : ℕ) (a b : Bool) → eqb (v % 4) 1 ≡ a → eqb (v % 4) 2 ≡ b → list_begins v (channel_of k c) ≡ false
+  command_effect : (v : ℕ) (a b : Bool) → eqb (v % 4) 1 ≡ a → eqb (v % 4) 2 ≡ b → list_begins v (channel_of k c) ≡ false
       → Accessed c k b (with_channel c (with_list_command v (channel_of k c)) k)
-  command-effect v true b p q e = let no_way : ⊥ = (let z : true ≡ false = (rw p at e) in let n : ◌≡◌ {A = ℕ} 0 1 = cc in omega arith) in absurd no_way
-  command-effect v false false p q e = quiet (inl refl) (own k c c _ f hc hc (rw (p, q)))
-  command-effect v false true p q e = go (channel_of k c).list.active (channel_of k c).list.loaded refl refl
+  command_effect v true b p q e = let no_way : ⊥ = (let z : true ≡ false = (rw p at e) in let n : ◌≡◌ {A = ℕ} 0 1 = cc in omega arith) in absurd no_way
+  command_effect v false false p q e = quiet (inl refl) (own k c c _ f hc hc (rw (p, q)))
+  command_effect v false true p q e = go (channel_of k c).list.active (channel_of k c).list.loaded refl refl
     where
       go : (m n : Bool) → (channel_of k c).list.active ≡ m → (channel_of k c).list.loaded ≡ n → Accessed c k true (with_channel c (with_list_command v (channel_of k c)) k)
       go false n i j = quiet (inr i) (own k c c _ f hc hc (rw (p, q, i)))
       go true false i j = let no_way : ⊥ = (let z : true ≡ false = (rw (p, q, i, j) at e) in let n : ◌≡◌ {A = ℕ} 0 1 = cc in omega arith) in absurd no_way
-      go true true i j = halts refl i j (ap part_of (channel-same k c _ f hc) ∙ rw (p, q, i, j))
+      go true true i j = halts refl i j (ap part_of (channel_same k c _ f hc) ∙ rw (p, q, i, j))
 
-  list-effect : (d v : ℕ) (q : Bool) → d < 8 → eqb c d ≡ q → (q && list_begins_for (channel_of k d) v) ≡ false → Accessed c k (q && eqb (v % 4) 2) (list_written d v k)
-  list-effect d v false hd q e = quiet (inl refl) (go (list_begins v (channel_of k d)))
+  list_effect : (d v : ℕ) (q : Bool) → d < 8 → eqb c d ≡ q → (q && list_begins_for (channel_of k d) v) ≡ false → Accessed c k (q && eqb (v % 4) 2) (list_written d v k)
+  list_effect d v false hd q e = quiet (inl refl) (go (list_begins v (channel_of k d)))
     where
       go : (b : Bool) → part_of (channel_of (cond b (programmed d (with_list_command v (channel_of k d)) k) (with_channel d (with_list_command v (channel_of k d)) k)) c) ≡ part_of (channel_of k c)
       go true = other k c d _ f hc hd q
       go false = other k c d _ f hc hd q
-  list-effect d v true hd q e =
+  list_effect d v true hd q e =
       let same : d ≡ c = grind arith in
-      rw same (let e' : list_begins v (channel_of k c) ≡ false = (rw same at e) in rw e' (command-effect v (eqb (v % 4) 1) (eqb (v % 4) 2) refl refl e'))
+      rw same (let e' : list_begins v (channel_of k c) ≡ false = (rw same at e) in rw e' (command_effect v (eqb (v % 4) 1) (eqb (v % 4) 2) refl refl e'))
 
   -- an accepted write that begins no job of c
-  accepted-effect : (s : State) (w : WritePort) (v : ℕ) → s.registers ≡ k → Reaches w → write_begins s (Some w) v c ≡ false → Accessed c k (stop_at (Some w) v c) (accepted_at w v k)
-  accepted-effect s (target.Field x d) v i h e = quiet (inl refl) (field-effect x d v h e)
-  accepted-effect s (target.ListCommand d) v i h e = list-effect d v (eqb c d) h refl (rw i at e)
-  accepted-effect s (target.Control x d) v i h e = quiet (inl refl) (control-effect x d v e)
+  accepted_effect : (s : State) (w : WritePort) (v : ℕ) → s.registers ≡ k → Reaches w → write_begins s (Some w) v c ≡ false → Accessed c k (stop_at (Some w) v c) (accepted_at w v k)
+  accepted_effect s (target.Field x d) v i h e = quiet (inl refl) (field_effect x d v h e)
+  accepted_effect s (target.ListCommand d) v i h e = list_effect d v (eqb c d) h refl (rw i at e)
+  accepted_effect s (target.Control x d) v i h e = quiet (inl refl) (control_effect x d v e)
 
-  at-effect : (s : State) (w : WritePort) (v : ℕ) (q : Bool) → s.registers ≡ k → Reaches w → (q && write_begins s (Some w) v c) ≡ false
+  at_effect : (s : State) (w : WritePort) (v : ℕ) (q : Bool) → s.registers ≡ k → Reaches w → (q && write_begins s (Some w) v c) ≡ false
       → Accessed c k (q && stop_at (Some w) v c) (cond q (accepted_at w v k) k)
-  at-effect s w v true i h e = accepted-effect s w v i h e
-  at-effect s w v false i h e = quiet (inl refl) refl
+  at_effect s w v true i h e = accepted_effect s w v i h e
+  at_effect s w v false i h e = quiet (inl refl) refl
 
   and_false : (b : Bool) → (b && false) ≡ false
   and_false true = refl
@@ -154,7 +154,7 @@ module _ (k : Registers) (c : ℕ) (f : Four k) (hc : c < 8) where
   pub write_effect : (s : State) (o : Option WritePort) (v : ℕ) → s.registers ≡ k → ReachesIf o → (eqb (refusal_for k o v) 0 && write_begins s o v c) ≡ false
       → Accessed c k (eqb (refusal_for k o v) 0 && stop_at o v c) (written_for o v k)
   write_effect s None v i h e = quiet (inl (and_false (eqb 1 0))) refl
-  write_effect s (Some w) v i h e = at-effect s w v (eqb (refusal_at k w v) 0) i h e
+  write_effect s (Some w) v i h e = at_effect s w v (eqb (refusal_at k w v) 0) i h e
 
 -- reads and lines leave every channel's part
 read_at_lem : (k : Registers) (c : ℕ) (p : ReadPort) → part_of (channel_of (read_at p k) c) ≡ part_of (channel_of k c)

@@ -6,7 +6,7 @@ use Rattle.script.specs.Commands.{Order, Out, In, Lines, Step, Put, Next, bytes_
 use Rattle.script.specs.Laws.{ScriptRewrites}
 use Rattle.script.specs.Reads.{Reading, read_of, rest_after, rest_of, read_full, read_more, read_into}
 use Rattle.script.proofs.Reading.{There}
-use Rattle.script.proofs.Standing.{out_there, in_there, lines_there, step_there, put_there, next-there}
+use Rattle.script.proofs.Standing.{out_there, in_there, lines_there, step_there, put_there, next_there}
 
 -- The byte that a command was read from, and how many bytes of operands there are.
 is_out : (b : ℕ) (s : List ℕ) (port value : ℕ) → Ok (Some (Out port value)) ≡ read_of (b ∷ s) → (b ≡ 1) × (3 ≤ length s)
@@ -61,7 +61,7 @@ stood (b ∷ s) (Put address bytes) small read =
     let k = is_put b s address bytes read in
     let eight : length (take 8 (drop 4 s)) ≡ 8 = simp (length-take, length-drop) (omega arith) in
     same _ _ _ _ (put_there (b ∷ s) _ (drop 8 (drop 4 s)) (sym (take-append-drop 8 (drop 4 s))) eight _ k.0 refl (small 1) (small 2) (small 3) (small 4)) read
-stood (b ∷ s) Next small read = same _ _ _ _ (next-there (b ∷ s) (omega arith) (is_next b s read)) read
+stood (b ∷ s) Next small read = same _ _ _ _ (next_there (b ∷ s) (omega arith) (is_next b s read)) read
 
 -- One command, with no place or with more to come.
 full : (s : List ℕ) (r : Result (Option Order) ℕ) → r ≡ read_of s → (read_full r).refusal ≡ 0 → script_of (read_full r).orders ≡ s

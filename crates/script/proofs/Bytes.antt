@@ -7,8 +7,8 @@ use Rattle.script.specs.Reads.{first_two, first_four}
 pub first_two_lem : (n : ℕ) (s : List ℕ) → n < 2 ^ 16 → first_two (two n ++ s) ≡ n
 first_two_lem n s fits = omega arith
 
-pub first-four : (n : ℕ) (s : List ℕ) → n < 2 ^ 32 → first_four (four n ++ s) ≡ n
-first-four n s fits =
+pub first_four_lem : (n : ℕ) (s : List ℕ) → n < 2 ^ 32 → first_four (four n ++ s) ≡ n
+first_four_lem n s fits =
     let second : n / 65536 ≡ n / 256 / 256 = omega arith in
     let third : n / 16777216 ≡ n / 65536 / 256 = omega arith in
     let lowest : n % 256 + n / 256 * 256 ≡ n = omega arith in

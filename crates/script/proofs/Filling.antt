@@ -44,8 +44,8 @@ module _ (first : List ℕ) (orders : List Order) (i size : ℕ) (block : List �
   part_is : take (length block - size) (drop size block) ≡ drop size first
   part_is = take_rest block size ∙ ap (drop size) so.filled ∙ drop_at (script_of (take i orders)) (drop size first) size (sym so.sized)
 
-  block-is : (part : List ℕ) → put_mid size (length block - size) block part ≡ script_of (take i orders) ++ part
-  block-is part =
+  block_is : (part : List ℕ) → put_mid size (length block - size) block part ≡ script_of (take i orders) ++ part
+  block_is part =
       let start : take size block ≡ script_of (take i orders) = ap (take size) so.filled ∙ take_at (script_of (take i orders)) (drop size first) size (sym so.sized) in
       let none : drop (length block - size) (drop size block) ≡ [] = drop_all (length block - size) (drop size block) (simp length-drop (omega arith)) in
       ap (λ u. u ++ (part ++ drop (length block - size) (drop size block))) start
@@ -72,8 +72,8 @@ module _ (first : List ℕ) (orders : List Order) (i size : ℕ) (block : List �
     written_reads_back = rw end (script_reads_back (take i orders) so.back)
 
   module _ (order : Order) (here : drop i orders ≡ order ∷ drop (i + 1) orders) (front : take (i + 1) orders ≡ take i orders ++ order ∷ []) (part : List ℕ) (isPart : part ≡ block_after (take (length block - size) (drop size block)) (bytes_of order)) where
-    script-more : script_of (take i orders) ++ bytes_of order ≡ script_of (take (i + 1) orders)
-    script-more = flat_map_more bytes_of [] (take i orders) order ∙ ap script_of (sym front)
+    script_more : script_of (take i orders) ++ bytes_of order ≡ script_of (take (i + 1) orders)
+    script_more = flat_map_more bytes_of [] (take i orders) order ∙ ap script_of (sym front)
 
     pub filling_more : (k : ℕ) → Ok k ≡ size_in (take (length block - size) (drop size block)) (bytes_of order) → CommandReadsBack order → Filling first orders (i + 1) (size + k) (put_mid size (length block - size) block part)
     filling_more k answer back =
@@ -93,13 +93,13 @@ module _ (first : List ℕ) (orders : List Order) (i size : ℕ) (block : List �
               ∙ sym (append_assoc (take i orders) (order ∷ []) (fitting (length first - size - length bytes) (drop (i + 1) orders)))
               ∙ ap (λ u. u ++ fitting (length first - size - length bytes) (drop (i + 1) orders)) (sym front)
               ∙ ap (λ m. take (i + 1) orders ++ fitting m (drop (i + 1) orders)) (omega arith);
-          sized = omega (arith, so.sized, known.1, sym (length-append (script_of (take i orders)) bytes) ∙ ap length script-more);
+          sized = omega (arith, so.sized, known.1, sym (length-append (script_of (take i orders)) bytes) ∙ ap length script_more);
           within = omega (arith, so.within, known.1);
           filled =
-              block-is part
+              block_is part
               ∙ ap (λ u. script_of (take i orders) ++ u) past
               ∙ sym (append_assoc (script_of (take i orders)) bytes (drop k (drop size first)))
-              ∙ ap (λ u. u ++ drop k (drop size first)) script-more
+              ∙ ap (λ u. u ++ drop k (drop size first)) script_more
               ∙ ap (λ u. script_of (take (i + 1) orders) ++ u) (drop-drop k size first);
           back = rw front (All-push CommandReadsBack (take i orders) order so.back back);
         }
@@ -111,7 +111,7 @@ module _ (first : List ℕ) (orders : List Order) (i size : ℕ) (block : List �
         let full : length first - size < length (bytes_of order) = simp length-drop at (rw part_is at known.0) in
         let past : part ≡ drop size first = isPart ∙ cond-true _ _ _ (lt-ltb _ _ known.0) ∙ part_is in (
           ends (ap (fitting (length first - size)) here ∙ fits_none (length first - size) order (drop (i + 1) orders) full),
-          record { fits = so.fits; sized = so.sized; within = so.within; filled = block-is part ∙ ap (λ u. script_of (take i orders) ++ u) past; back = so.back },
+          record { fits = so.fits; sized = so.sized; within = so.within; filled = block_is part ∙ ap (λ u. script_of (take i orders) ++ u) past; back = so.back },
           known.1,
         )
 

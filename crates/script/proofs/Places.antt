@@ -5,15 +5,15 @@ use Rattle.script.specs.declared.command.Command.{Command}
 use Rattle.script.specs.Commands.{Order, order_of}
 
 module _ (commands : List Command) (count : ℕ) where
-  pub placed-length : count ≤ length commands → length (map order_of (take count commands)) ≡ count
-  placed-length h = length-map (take count commands) order_of ∙ length-take-le count commands h
+  pub placed_length : count ≤ length commands → length (map order_of (take count commands)) ≡ count
+  placed_length h = length-map (take count commands) order_of ∙ length-take-le count commands h
 
-  pub placed-more : (command : Command) → count < length commands → map order_of (take (count + 1) (set commands count command)) ≡ map order_of (take count commands) ++ order_of command ∷ []
-  placed-more command h = ap (map order_of) (take_more_set commands count command h) ∙ map_push order_of (take count commands) command
+  pub placed_more : (command : Command) → count < length commands → map order_of (take (count + 1) (set commands count command)) ≡ map order_of (take count commands) ++ order_of command ∷ []
+  placed_more command h = ap (map order_of) (take_more_set commands count command h) ∙ map_push order_of (take count commands) command
 
   -- The places past them are as they were.
-  pub others-more : (command : Command) (first : List Command) → drop count commands ≡ drop count first → drop (count + 1) (set commands count command) ≡ drop (count + 1) first
-  others-more command first same =
+  pub others_more : (command : Command) (first : List Command) → drop count commands ≡ drop count first → drop (count + 1) (set commands count command) ≡ drop (count + 1) first
+  others_more command first same =
       drop-set-lt (count + 1) commands count command (omega arith)
       ∙ sym (drop-drop 1 count commands)
       ∙ ap (drop 1) same

@@ -5,7 +5,7 @@ use Rattle.std.proofs.lemmas.Bool.{cond-false, le-ltb}
 use Rattle.script.specs.Commands.{Order, Out, In, Lines, Step, Put, Next, two, four, bytes_of}
 use Rattle.script.specs.Laws.{CommandReadsBack}
 use Rattle.script.specs.Reads.{whole, read_of, rest_after, rest_of}
-use Rattle.script.proofs.Bytes.{first_two_lem, first-four}
+use Rattle.script.proofs.Bytes.{first_two_lem, first_four_lem}
 
 -- The numbers fit their widths, and PUT has eight bytes.
 abbrev pub InRange : Order → Type 0
@@ -27,7 +27,7 @@ command_reads_back (Lines bits) fits s = is_whole 1 (bits ∷ s) _ _ (omega arit
 command_reads_back (Step count) fits s = is_whole 2 (two count ++ s) _ _ (omega arith) (ap Step (first_two_lem count s fits))
 command_reads_back (Put address bytes) fits s =
     is_whole 12 (four address ++ (bytes ++ s)) _ _ (simp length-append (omega arith))
-    (ap (λ n. Put n (take 8 (bytes ++ s))) (first-four address (bytes ++ s) fits.0) ∙ ap (Put address) (take_at bytes s 8 fits.1))
+    (ap (λ n. Put n (take 8 (bytes ++ s))) (first_four_lem address (bytes ++ s) fits.0) ∙ ap (Put address) (take_at bytes s 8 fits.1))
 command_reads_back Next fits s = is_whole 0 s Next Next (omega arith) refl
 
 -- Once it is read, what follows is left.

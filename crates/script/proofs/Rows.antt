@@ -65,5 +65,5 @@ module _ (n : ℕ) (script : List ℕ) (orders : List Order) (s : List ℕ) (so 
   pub going_refused : (number : ℕ) → Err number ≡ read_of s → read_into n script ≡ record { orders = orders; refusal = number }
   going_refused number read = ends number (read_refused (n - length orders) s number read)
 
-  pub going-full : (order : Order) → length orders ≡ n → Ok (Some order) ≡ read_of s → read_into n script ≡ record { orders = orders; refusal = number_of NoPlace }
-  going-full order full read = ends (number_of NoPlace) (read_full_lem (n - length orders) s order (omega arith) read)
+  pub going_full : (order : Order) → length orders ≡ n → Ok (Some order) ≡ read_of s → read_into n script ≡ record { orders = orders; refusal = number_of NoPlace }
+  going_full order full read = ends (number_of NoPlace) (read_full_lem (n - length orders) s order (omega arith) read)

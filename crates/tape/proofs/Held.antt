@@ -14,15 +14,15 @@ abbrev left : {X : Type 0} → ℕ → ℕ → List X → ℕ
 left s c cells = length cells - length (held s c cells)
 
 module _ {X : Type 0} (s c : ℕ) (cells : List X) where
-  pub length-held : length (held s c cells) ≡ min c (length cells)
-  length-held = length-ring (min s (length cells)) (min c (length cells)) cells (omega arith) (omega arith)
+  pub length_held : length (held s c cells) ≡ min c (length cells)
+  length_held = length-ring (min s (length cells)) (min c (length cells)) cells (omega arith) (omega arith)
 
   -- a tape is full if it holds as much as it has cells
-  pub full-held : eqb (length (held s c cells)) (length cells) ≡ eqb (left s c cells) 0
-  full-held = let e = length-held in grind (arith, nat_tests)
+  pub full_held : eqb (length (held s c cells)) (length cells) ≡ eqb (left s c cells) 0
+  full_held = let e = length_held in grind (arith, nat_tests)
 
   pub none_left : length cells ≤ c → left s c cells ≡ 0
-  none_left h = let e = length-held in omega arith
+  none_left h = let e = length_held in omega arith
 
   -- if no cell is free, of two ways the one that changes nothing
   pub none_free : {Y : Type 0} (x y : Y) → length cells ≤ c → y ≡ cond (ltb 0 (left s c cells)) x y
@@ -39,10 +39,10 @@ held_all cells =
 module _ {X : Type 0} (s c : ℕ) (cells : List X) (x : X) (p : ℕ) (h : c < length cells) (e : p ≡ wrap (min s (length cells) + c) (length cells)) where
   -- of two ways the one that adds
   pub push_free : {Y : Type 0} (y z : Y) → y ≡ cond (ltb 0 (left s c cells)) y z
-  push_free y z = let l = length-held s c cells in sym (cond-true _ y z (lt-ltb _ _ (omega arith)))
+  push_free y z = let l = length_held s c cells in sym (cond-true _ y z (lt-ltb _ _ (omega arith)))
 
   pub push_place : p ≡ wrap (min s (length cells) + length (held s c cells)) (length cells)
-  push_place = let l : length (held s c cells) ≡ c = length-held s c cells ∙ omega arith in rw l e
+  push_place = let l : length (held s c cells) ≡ c = length_held s c cells ∙ omega arith in rw l e
 
   pub push_held : held s (c + 1) (set cells p x) ≡ held s c cells ++ x ∷ []
   push_held =
@@ -54,8 +54,8 @@ module _ {X : Type 0} (s c : ℕ) (cells : List X) (x : X) (p : ℕ) (h : c < le
 
   pub push_left : left s (c + 1) (set cells p x) ≡ left s c cells - 1
   push_left =
-      let old = length-held s c cells in
-      let new = length-held s (c + 1) (set cells p x) in
+      let old = length_held s c cells in
+      let new = length_held s (c + 1) (set cells p x) in
       let size = length-set cells p x in
       omega arith
 
@@ -63,7 +63,7 @@ module _ {X : Type 0} (s c : ℕ) (cells : List X) (x : X) (p : ℕ) (h : c < le
 module _ {X : Type 0} (s c : ℕ) (cells : List X) (b x : X) (p m : ℕ) (h : 0 < m) (em : m ≡ length (held s c cells)) (e : p ≡ wrap (min s (length cells) + 0) (length cells)) (hx : x ≡ get_or cells p x) where
   pub pop_held : held s c cells ≡ x ∷ held (p + 1) (m - 1) (set cells p b)
   pop_held =
-      let l : m ≡ min c (length cells) = em ∙ length-held s c cells in
+      let l : m ≡ min c (length cells) = em ∙ length_held s c cells in
       let pb : p < length cells = rw e (wrap_below (min s (length cells)) 0 (length cells) (omega arith) (omega arith)) in
       let fewer : min (m - 1) (length (set cells p b)) ≡ m - 1 = simp length-set (omega arith) in
       let start : min (p + 1) (length (set cells p b)) ≡ p + 1 = simp length-set (omega arith) in

@@ -31,11 +31,11 @@ wrap_apart : (s k c n : ℕ) → s ≤ n → k < c → c < n → wrap (s + k) n 
 wrap_apart s k c n hs hk hc e = grind (arith, nat_tests)
 
 -- the ring from the second place on has the same places
-wrap-next : (s k n : ℕ) → s ≤ n → suc k < n → wrap (wrap (s + 0) n + 1 + k) n ≡ wrap (s + suc k) n
-wrap-next s k n hs hk = grind (arith, nat_tests)
+wrap_next : (s k n : ℕ) → s ≤ n → suc k < n → wrap (wrap (s + 0) n + 1 + k) n ≡ wrap (s + suc k) n
+wrap_next s k n hs hk = grind (arith, nat_tests)
 
-wrap-first : (s k n : ℕ) → s ≤ n → suc k < n → wrap (s + suc k) n ≢ wrap (s + 0) n
-wrap-first s k n hs hk e = grind (arith, nat_tests)
+wrap_first : (s k n : ℕ) → s ≤ n → suc k < n → wrap (s + suc k) n ≢ wrap (s + 0) n
+wrap_first s k n hs hk e = grind (arith, nat_tests)
 
 -- x in the place p after the last
 module _ {X : Type 0} (s c : ℕ) (cells : List X) (x : X) (hs : s ≤ length cells) (p : ℕ) where
@@ -64,14 +64,14 @@ module _ {X : Type 0} (s c : ℕ) (cells : List X) (x : X) (hs : s ≤ length ce
 
 -- x, the first, in the place p, where b comes in its stead
 module _ {X : Type 0} (s c : ℕ) (cells : List X) (b : X) (hs : s ≤ length cells) (hc : c ≤ length cells) (p : ℕ) (e : p ≡ wrap (s + 0) (length cells)) (x : X) (hx : x ≡ get_or cells p x) where
-  pop-at : 0 < c → p < length cells → (k : ℕ) (d : X) → k < c → get_or (ring s c cells) k d ≡ get_or (x ∷ ring (p + 1) (c - 1) (set cells p b)) k d
-  pop-at h0 pb zero d h = get_or-ring s c cells hs hc 0 d h ∙ ap (λ i. get_or cells i d) (sym e) ∙ sym (get_or_read cells p x pb hx d)
-  pop-at h0 pb (suc k) d h =
+  pop_at : 0 < c → p < length cells → (k : ℕ) (d : X) → k < c → get_or (ring s c cells) k d ≡ get_or (x ∷ ring (p + 1) (c - 1) (set cells p b)) k d
+  pop_at h0 pb zero d h = get_or-ring s c cells hs hc 0 d h ∙ ap (λ i. get_or cells i d) (sym e) ∙ sym (get_or_read cells p x pb hx d)
+  pop_at h0 pb (suc k) d h =
       let start : p + 1 ≤ length (set cells p b) = simp length-set (omega arith) in
       let enough : c - 1 ≤ length (set cells p b) = simp length-set (omega arith) in
       let lt : k < c - 1 = omega arith in
-      let next : wrap (p + 1 + k) (length cells) ≡ wrap (s + suc k) (length cells) = rw e (wrap-next s k (length cells) hs (omega arith)) in
-      let apart : wrap (s + suc k) (length cells) ≢ p = λ z. wrap-first s k (length cells) hs (omega arith) (z ∙ e) in
+      let next : wrap (p + 1 + k) (length cells) ≡ wrap (s + suc k) (length cells) = rw e (wrap_next s k (length cells) hs (omega arith)) in
+      let apart : wrap (s + suc k) (length cells) ≢ p = λ z. wrap_first s k (length cells) hs (omega arith) (z ∙ e) in
       let q : get_or (ring (p + 1) (c - 1) (set cells p b)) k d ≡ get_or (set cells p b) (wrap (p + 1 + k) (length cells)) d =
       simp length-set at (get_or-ring (p + 1) (c - 1) (set cells p b) start enough k d lt) in
       get_or-ring s c cells hs hc (suc k) d h
@@ -84,4 +84,4 @@ module _ {X : Type 0} (s c : ℕ) (cells : List X) (b : X) (hs : s ≤ length ce
       let enough : c - 1 ≤ length (set cells p b) = simp length-set (omega arith) in
       let old : length (ring s c cells) ≡ c = length-ring s c cells hs hc in
       let new : length (ring (p + 1) (c - 1) (set cells p b)) ≡ c - 1 = length-ring (p + 1) (c - 1) (set cells p b) start enough in
-      same_lists _ _ (old ∙ omega arith) (λ k d h. pop-at h0 pb k d (omega arith))
+      same_lists _ _ (old ∙ omega arith) (λ k d h. pop_at h0 pb k d (omega arith))

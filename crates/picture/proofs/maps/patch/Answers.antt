@@ -1,7 +1,7 @@
 -- The bytes fit, so the block has them, and what it shows after the write is what its lender finds.
 use Rattle.std.proofs.Common.{length, refl, rules}
 use Rattle.memory.specs.Blocks.{block_kind, block_byte}
-use Rattle.memory.proofs.Lent.{came-back}
+use Rattle.memory.proofs.Lent.{came_back}
 use Rattle.picture.proofs.Patching.{patch_answer, patch_bytes}
 use Rattle.picture.proofs.maps.patch.Goals as goal
 
@@ -17,5 +17,5 @@ returns c =
     record {
       answer = patch_answer bs a (block_kind before) fits made.kinds c.put.result c.number_of.result did.answer c.number_of.ensures;
       after = patch_bytes bs a (block_kind before) fits made.kinds c.args.eight (block_byte before) (block_byte after) made.bytes did.bytes
-          (came-back 0 (length bs) before after (block_byte after) (search rules) (search rules) made.lender.2 did.stays refl);
+          (came_back 0 (length bs) before after (block_byte after) (search rules) (search rules) made.lender.2 did.stays refl);
     }

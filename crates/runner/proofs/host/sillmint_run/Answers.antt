@@ -1,7 +1,7 @@
 -- The block has the host's bytes, and what it shows after the run is what the host finds.
 use Rattle.std.proofs.Common.{[], length, refl, ◌∙◌, rules}
 use Rattle.memory.specs.Blocks.{block_kind, block_byte}
-use Rattle.memory.proofs.Lent.{came-back}
+use Rattle.memory.proofs.Lent.{came_back}
 use Rattle.ports.specs.Ramps.{ramp_waiting}
 use Rattle.controller.specs.Outside.{outside}
 use Rattle.runner.proofs.Hosting.{host_refused, host_keeps, host_answers, host_shows}
@@ -29,5 +29,5 @@ returns c =
           c.run.result.refusal c.run.result.length c.run.new.output did.answers;
       memory = host_shows c.args.script.now bytes c.args.output.now fits (block_kind before) (block_byte before) waiting made.kinds made.bytes c.counting-bank.ensures
           (outside (block_kind after) (block_byte after) (ramp_waiting c.run.new.bank) (λ c. []) (λ c. 0)) did.world
-          (came-back 0 (length bytes) before after (block_byte after) (search rules) (search rules) made.lender.2 did.stays refl);
+          (came_back 0 (length bytes) before after (block_byte after) (search rules) (search rules) made.lender.2 did.stays refl);
     }

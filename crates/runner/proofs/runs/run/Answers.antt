@@ -1,7 +1,7 @@
 -- Each turn plays one command more.
 use Rattle.std.proofs.Common.{Err, refl, ap, ◌∙◌, arith, rules}
 use Rattle.runner.specs.Worlds.{world_of}
-use Rattle.runner.proofs.Running.{running_none, running_more, running-full, running_end, running_refused}
+use Rattle.runner.proofs.Running.{running_none, running_more, running_full, running_end, running_refused}
 use Rattle.runner.proofs.runs.run.Goals as goal
 
 pub loop-command-init : goal.loop-command-init
@@ -21,7 +21,7 @@ loop-command-preserved g c =
 
 pub returns-in-Err-answer : goal.returns-in-Err-answer
 returns-in-Err-answer g c =
-    let found = running-full c.loop-command.invariant.0 (search rules) c.next.ensures.rest (search rules) (c.from.ensures ∙ c.number.ensures) c.in-Err-answer.ensures.does in
+    let found = running_full c.loop-command.invariant.0 (search rules) c.next.ensures.rest (search rules) (c.from.ensures ∙ c.number.ensures) c.in-Err-answer.ensures.does in
     record { answers = found.0; world = found.1; stays = c.in-Err-answer.ensures.stays ∙ c.loop-command.invariant.1 }
 
 pub returns-in-Ok-None : goal.returns-in-Ok-None

@@ -1,7 +1,7 @@
 -- A command that is read stands before what is left.
 use Rattle.std.proofs.Common.{◌-◌, length, take, drop, sym, ◌∙◌, rules}
 use Rattle.std.proofs.lemmas.List.{take_rest}
-use Rattle.script.proofs.Standing.{out_there, in_there, lines_there, step_there, put_there, next-there, split_whole, split_eight}
+use Rattle.script.proofs.Standing.{out_there, in_there, lines_there, step_there, put_there, next_there, split_whole, split_eight}
 use Rattle.script.proofs.reader.Script.next.Goals as goal
 
 pub returns-in-empty : goal.returns-in-empty
@@ -38,5 +38,5 @@ returns-in-5 c =
 
 pub returns-in-6 : goal.returns-in-6
 returns-in-6 c =
-    let t = next-there c.args.self.now.rest.now (search rules) (search rules) in
+    let t = next_there c.args.self.now.rest.now (search rules) (search rules) in
     record { answer = t.answer; rest = t.rest; shorter = t.shorter }
