@@ -1,5 +1,5 @@
 -- A chosen channel is served from the state in which its service has begun.
-use Rattle.std.proofs.Common.{◌≡◌, Some, Result, sym, subst}
+use Rattle.std.proofs.Common.{◌≡◌, Some, Result, subst}
 use Rattle.arbiter.specs.declared.groups.Choice.{Choice}
 use Rattle.controller.specs.declared.fault.Fault.{Fault}
 use Rattle.controller.specs.declared.event.Event.{Event}

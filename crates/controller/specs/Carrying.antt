@@ -1,5 +1,5 @@
 -- One unit between a device and memory: every check first, in number order, then the move.
-use Rattle.std.specs.Prelude.{ℕ, ◌+◌, ◌*◌, ◌/◌, ◌%◌, Bool, true, false, cond, List, [], ◌∷◌, Some, None, Ok, Err, Option, Result, nat_lt}
+use Rattle.std.specs.Prelude.{ℕ, ◌+◌, ◌*◌, ◌/◌, ◌%◌, Bool, cond, Some, None, Ok, Err, Option, Result, nat_lt}
 use Rattle.bus.specs.declared.place.Addressing.{Addressing}
 use Rattle.bus.specs.declared.place.Addressing.TheVariants.{Bytes, Words}
 use Rattle.memory.specs.declared.kinds.Kind.{Kind}

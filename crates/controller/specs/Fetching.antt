@@ -1,10 +1,9 @@
 -- The fetch of one entry: eight bytes from the list's next place, lowest first.
-use Rattle.std.specs.Prelude.{ℕ, ◌+◌, ◌*◌, ◌/◌, ◌%◌, Bool, true, false, cond, ◌||◌, List, [], ◌∷◌, Some, None, Ok, Err, Option, Result, nat_le}
+use Rattle.std.specs.Prelude.{ℕ, ◌+◌, ◌*◌, ◌%◌, true, cond, List, [], ◌∷◌, Some, None, Ok, Err, Option, Result, nat_le}
 use Rattle.memory.specs.declared.kinds.Kind.{Kind}
 use Rattle.memory.specs.Bytes.{is_absent}
 use Rattle.registers.specs.declared.channel.Channel.{Channel}
 use Rattle.registers.specs.declared.list.List.{List as Chain}
-use Rattle.registers.specs.declared.list.Entry.{Entry}
 use Rattle.registers.specs.Channels.{with_list}
 use Rattle.controller.specs.declared.fault.Fault.{Fault}
 use Rattle.controller.specs.declared.fetching.Fetched.{Fetched}

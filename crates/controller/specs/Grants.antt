@@ -1,11 +1,10 @@
 -- Bus master grants: the bus taken, used for single bytes, and released.
-use Rattle.std.specs.Prelude.{ℕ, Bool, true, false, cond, Some, None, Ok, Err, Option, Result, ◌==◌}
+use Rattle.std.specs.Prelude.{ℕ, Bool, false, cond, Ok, Err, Result, ◌==◌}
 use Rattle.memory.specs.declared.kinds.Kind.{Kind}
 use Rattle.memory.specs.declared.kinds.Kind.TheVariants.{Absent, ReadOnly, Writable}
 use Rattle.memory.specs.declared.kinds.MemoryFault.{MemoryFault}
 use Rattle.memory.specs.declared.kinds.MemoryFault.TheVariants as memory
 use Rattle.memory.specs.Bytes.{written}
-use Rattle.registers.specs.declared.file.Registers.{Registers}
 use Rattle.registers.specs.File.{over, with_service}
 use Rattle.controller.specs.declared.controller.Bus.{Bus}
 use Rattle.controller.specs.declared.controller.Bus.TheVariants.{Home, Out, Taken}

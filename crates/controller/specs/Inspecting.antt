@@ -1,5 +1,5 @@
 -- Inspection: a channel's current address and count, as a driver would read them, with the byte pointer left as it stood.
-use Rattle.std.specs.Prelude.{ℕ, Bool, cond, not, ◌&&◌, Ok, Err, Result, ◌==◌, nat_lt}
+use Rattle.std.specs.Prelude.{ℕ, cond, not, ◌&&◌, Ok, Err, Result, ◌==◌, nat_lt}
 use Rattle.registers.specs.declared.refusal.Refusal.{Refusal}
 use Rattle.registers.specs.declared.file.Registers.{Registers}
 use Rattle.registers.specs.File.{channel_of}

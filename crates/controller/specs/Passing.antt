@@ -8,8 +8,7 @@ use Rattle.registers.specs.declared.channel.Channel.{Channel}
 use Rattle.registers.specs.declared.channel.Span.{Span}
 use Rattle.registers.specs.declared.list.List.{List as Chain}
 use Rattle.registers.specs.declared.list.Entry.{Entry}
-use Rattle.registers.specs.declared.list.Signal.{Signal}
-use Rattle.registers.specs.declared.list.Signal.TheVariants.{Eop, Irq13}
+use Rattle.registers.specs.declared.list.Signal.TheVariants.{Eop}
 use Rattle.registers.specs.declared.mode.Service.{Service}
 use Rattle.registers.specs.declared.mode.Service.TheVariants.{Demand, Single, Block, Cascade}
 use Rattle.registers.specs.Channels.{with_list, with_mask, with_request, with_terminal, is_irq13}

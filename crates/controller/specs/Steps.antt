@@ -1,15 +1,12 @@
 -- A step: one thing done, and what it answers.
-use Rattle.std.specs.Prelude.{◌≡◌, ℕ, Bool, true, false, cond, not, ◌&&◌, List, Some, None, Ok, Err, Option, Result}
+use Rattle.std.specs.Prelude.{ℕ, Bool, false, cond, not, ◌&&◌, Some, None, Ok, Err, Option, Result}
 use Rattle.std.specs.Option.{unwrap_or}
 use Rattle.arbiter.specs.declared.groups.Side.{Side}
 use Rattle.arbiter.specs.declared.groups.Choice.{Choice}
 use Rattle.arbiter.specs.Slots.{mask_of}
 use Rattle.arbiter.specs.Groups.{winner_of, group_of as sideGroup}
-use Rattle.memory.specs.declared.kinds.Kind.{Kind}
 use Rattle.registers.specs.declared.group.Group.{Group}
-use Rattle.registers.specs.declared.channel.Channel.{Channel}
 use Rattle.registers.specs.declared.file.Registers.{Registers}
-use Rattle.registers.specs.declared.list.Signal.{Signal}
 use Rattle.registers.specs.Modes.{is_cascade}
 use Rattle.registers.specs.File.{fresh_file, channel_of, with_channel, with_service}
 use Rattle.controller.specs.declared.controller.Controller.{Controller}

@@ -1,5 +1,5 @@
 -- One channel's registers, and what a write makes of them.
-use Rattle.std.specs.Prelude.{ℕ, ◌+◌, ◌*◌, ◌/◌, ◌%◌, Bool, true, false, cond, not, ◌&&◌, ◌||◌, List, [], ◌∷◌, set, Some, None, Option, ◌==◌, nat_lt, slice_index, slice_set}
+use Rattle.std.specs.Prelude.{ℕ, ◌+◌, ◌*◌, ◌/◌, ◌%◌, Bool, true, false, cond, not, ◌&&◌, ◌||◌, List, [], ◌∷◌, Some, None, Option, ◌==◌, nat_lt, slice_index, slice_set}
 use Rattle.bus.specs.declared.place.Place.{Place}
 use Rattle.bus.specs.declared.place.Addressing.{Addressing}
 use Rattle.bus.specs.declared.place.Addressing.TheVariants.{Bytes, Words}

@@ -1,9 +1,8 @@
 -- A group of four channels, and what its own registers do.
-use Rattle.std.specs.Prelude.{ℕ, ◌+◌, ◌*◌, ◌/◌, ◌%◌, Bool, true, false, cond, not, ◌&&◌, ◌||◌, List, [], ◌∷◌, set, slice_index_or, slice_set}
+use Rattle.std.specs.Prelude.{ℕ, ◌+◌, ◌*◌, ◌%◌, Bool, false, cond, not, ◌&&◌, ◌||◌, List, [], ◌∷◌, slice_index_or, slice_set}
 use Rattle.bus.specs.declared.place.Addressing.{Addressing}
 use Rattle.registers.specs.declared.channel.Channel.{Channel}
 use Rattle.registers.specs.declared.group.Group.{Group}
-use Rattle.registers.specs.declared.group.BytePointer.{BytePointer}
 use Rattle.registers.specs.declared.ports.Control.{Control}
 use Rattle.registers.specs.declared.ports.Control.TheVariants.{Command, Request, Mask, Mode, ExtendedMode, ClearPointer, MasterClear, ClearMasks, AllMasks}
 use Rattle.registers.specs.Modes.{flag}

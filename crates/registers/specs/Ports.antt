@@ -1,5 +1,5 @@
 -- The port map: which register a port number reaches, in each direction. All sixteen bits count.
-use Rattle.std.specs.Prelude.{ℕ, ◌-◌, ◌/◌, ◌%◌, Bool, cond, Some, None, Option, ◌==◌, nat_lt}
+use Rattle.std.specs.Prelude.{ℕ, ◌-◌, ◌/◌, ◌%◌, cond, Some, None, Option, ◌==◌, nat_lt}
 use Rattle.registers.specs.declared.ports.Dma.{Dma}
 use Rattle.registers.specs.declared.ports.Dma.TheVariants.{One, Two}
 use Rattle.registers.specs.declared.ports.Field.{Field}

@@ -1,5 +1,5 @@
 -- The run that a host calls, over a block of its bytes.
-use Rattle.std.proofs.Common.{◌≡◌, ℕ, true, false, List, [], ◌++◌, length, sym, refl, ap, ◌∙◌, subst, arith}
+use Rattle.std.proofs.Common.{◌≡◌, ℕ, true, false, List, [], ◌++◌, length, sym, ap, ◌∙◌, subst, arith}
 use Rattle.std.proofs.lemmas.Bool.{cond-true, cond-false}
 use Rattle.memory.specs.declared.kinds.Kind.{Kind}
 use Rattle.memory.specs.Blocks.{fits_at, kind_of_all, kind_from, byte_from, list_from}

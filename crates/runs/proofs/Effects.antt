@@ -1,23 +1,19 @@
 -- What one call does to the plan of channel c: nothing, a Stop, a transfer, or a fetch.
-use Rattle.std.proofs.Common.{◌≡◌, ℕ, ◌+◌, ◌%◌, ◌<◌, Bool, true, false, cond, not, ◌&&◌, ◌||◌, eqb, ltb, ◌⊎◌, Some, None, Ok, Err, Option, Result, sym, refl, ap, ◌∙◌, subst, inl, inr, arith}
-use Rattle.arbiter.specs.declared.groups.Choice.{Choice}
+use Rattle.std.proofs.Common.{◌≡◌, ℕ, ◌<◌, Bool, true, false, cond, not, ◌&&◌, eqb, ◌⊎◌, Some, None, Ok, Err, Result, sym, refl, ap, ◌∙◌, subst, inl, inr, arith}
 use Rattle.registers.specs.declared.channel.Channel.{Channel}
-use Rattle.registers.specs.declared.file.Registers.{Registers}
 use Rattle.registers.specs.Modes.{is_cascade}
-use Rattle.registers.specs.File.{channel_of, with_channel, with_service}
+use Rattle.registers.specs.File.{channel_of}
 use Rattle.controller.specs.declared.event.Event.{Event}
-use Rattle.controller.specs.declared.event.Event.TheVariants as event
 use Rattle.controller.specs.declared.fault.Fault.{Fault}
 use Rattle.controller.specs.declared.fetching.Fetched.{Fetched as Found}
 use Rattle.controller.specs.Outside.{Outside}
-use Rattle.controller.specs.Passing.{passes, passed, faulted}
+use Rattle.controller.specs.Passing.{passes, passed}
 use Rattle.controller.specs.Asking.{fetches, is_open, has_place}
-use Rattle.controller.specs.Carrying.{carried}
 use Rattle.controller.specs.Fetching.{fetch_of, filled}
-use Rattle.controller.specs.Steps.{State, moves, fills, lends, fetch_step, transfer_of, service_of, settled, serve, failed, with_registers}
+use Rattle.controller.specs.Steps.{State, moves, fills, lends, fetch_step, transfer_of, settled, serve, failed}
 use Rattle.runs.specs.Words.{Move, moved_by, of_channel, fetched_by}
-use Rattle.runs.proofs.Slots.{Four, channel_with, channel_same, channel_other, four_with}
-use Rattle.runs.proofs.Parts.{Part, part_of}
+use Rattle.runs.proofs.Slots.{Four, channel_same, channel_other}
+use Rattle.runs.proofs.Parts.{part_of}
 
 -- a channel that can transfer: its list, if it is active, has a current entry
 abbrev pub Ready : Channel → Type 0

@@ -1,5 +1,5 @@
 -- What a transfer, a fetch, a Stop and a write elsewhere leave of a list's plan.
-use Rattle.std.proofs.Common.{◌≡◌, ℕ, zero, suc, ◌+◌, ◌-◌, ◌*◌, ◌%◌, ◌<◌, ◌≤◌, Bool, true, false, cond, not, ◌&&◌, ◌||◌, eqb, ltb, leb, ◌⊎◌, List, [], ◌∷◌, ◌++◌, length, get_or, take, is_some, Some, None, Ok, Err, Option, Result, sym, refl, ap, ◌∙◌, subst, ap₂, inl, inr, append_assoc, append-nil, arith}
+use Rattle.std.proofs.Common.{◌≡◌, ℕ, zero, suc, ◌+◌, ◌-◌, ◌%◌, ◌<◌, Bool, true, false, cond, not, ◌&&◌, ◌||◌, eqb, leb, List, [], ◌∷◌, ◌++◌, length, is_some, Some, None, Ok, Err, Option, sym, refl, ap, ◌∙◌, subst, ap₂, inl, inr, append_assoc, append-nil, arith}
 use Rattle.memory.specs.declared.kinds.Kind.{Kind}
 use Rattle.bus.specs.declared.place.Course.{Course}
 use Rattle.bus.specs.declared.place.Place.{Place}
@@ -10,19 +10,16 @@ use Rattle.registers.specs.declared.channel.Channel.{Channel}
 use Rattle.registers.specs.declared.list.List.{List as Chain}
 use Rattle.registers.specs.declared.list.Entry.{Entry as Buffer}
 use Rattle.registers.specs.Channels.{is_loaded}
-use Rattle.controller.specs.declared.fault.Fault.{Fault}
 use Rattle.controller.specs.declared.fetching.Fetched.{Fetched as Entry}
 use Rattle.controller.specs.Outside.{Outside}
-use Rattle.controller.specs.Passing.{course_of, passes, passed, stepped, entry_span, closed, less_one}
-use Rattle.controller.specs.Asking.{is_open, has_place}
+use Rattle.controller.specs.Passing.{course_of, passed, stepped, entry_span, closed, less_one}
 use Rattle.controller.specs.Faults.{fault_of}
 use Rattle.controller.specs.Fetching.{fetch_of, filled, entry_at, most_entries}
-use Rattle.runs.specs.Words.{entries_from, ends_by_eol, places}
+use Rattle.runs.specs.Words.{entries_from, ends_by_eol}
 use Rattle.runs.proofs.Parts.{Part, part_of}
-use Rattle.runs.proofs.Written.{with_stop}
 use Rattle.runs.proofs.Effects.{CanFetch}
-use Rattle.runs.proofs.Tables.{Agree, same_entries, fetched_is, entry_in, entries_more, after_entry, Readable}
-use Rattle.runs.proofs.Lists.{list_course, buffer_plan, along, current_plan, reserve_plan, loaded_plan, is_closed, unfetched, Running, never, own_course, part_with, part_holding, part_mid, part_next, part_empty, signal_mid, signal_next, signal_empty}
+use Rattle.runs.proofs.Tables.{fetched_is, entry_in, entries_more, after_entry, Readable}
+use Rattle.runs.proofs.Lists.{buffer_plan, along, current_plan, reserve_plan, loaded_plan, is_closed, unfetched, Running, never, own_course, part_with, part_holding, part_mid, part_next, part_empty, signal_mid, signal_next, signal_empty}
 
 -- what a transfer that does not signal leaves
 pub record Went (l : Course) (p p' : Part) : Type 0 where

@@ -1,24 +1,23 @@
 -- Every job of every channel, from making on and from each beginning.
-use Rattle.std.proofs.Common.{◌≡◌, ℕ, zero, suc, ◌+◌, ◌-◌, ◌*◌, ◌%◌, ◌<◌, Bool, true, false, cond, ◌&&◌, ◌||◌, ltb, List, [], ◌∷◌, ◌++◌, length, get_or, Some, None, Option, sym, refl, ap, ◌∙◌, subst, ap₂, append_assoc, arith}
+use Rattle.std.proofs.Common.{◌≡◌, ℕ, ◌-◌, ◌*◌, ◌%◌, ◌<◌, Bool, true, false, cond, ◌||◌, ltb, List, [], ◌∷◌, ◌++◌, length, get_or, Some, None, Option, sym, refl, ap, ◌∙◌, subst, ap₂, arith}
 use Rattle.bus.specs.declared.place.Course.{Course}
 use Rattle.registers.specs.declared.channel.Channel.{Channel}
 use Rattle.registers.specs.Channels.{blank}
 use Rattle.registers.specs.File.{channel_of, fresh_file}
 use Rattle.arbiter.proofs.Masks.{below_four}
-use Rattle.controller.specs.declared.fetching.Fetched.{Fetched as Entry}
 use Rattle.controller.specs.Outside.{Outside}
 use Rattle.controller.specs.Fetching.{most_entries}
 use Rattle.controller.specs.Steps.{State, fresh}
 use Rattle.runs.specs.declared.calls.Call.{Call}
 use Rattle.runs.specs.Calls.{Turn, run, ended, performed}
 use Rattle.runs.specs.Words.{Move, move_of, begins_job, entries_from, entries_at, ends_by_eol, table_of, places}
-use Rattle.runs.specs.Law.{NoneBegins, transfers, Along, PlainJob, ListJob, Job, Planned, Untouched, cut, cut_after, closed_by, addresses_of}
+use Rattle.runs.specs.Law.{NoneBegins, ListJob, Job, Planned, Untouched, cut, cut_after, closed_by}
 use Rattle.runs.proofs.Runs.{turn_of, kept}
-use Rattle.runs.proofs.Parts.{Part, part_of}
+use Rattle.runs.proofs.Parts.{part_of}
 use Rattle.runs.proofs.Sound.{Sound, sound_kept}
 use Rattle.runs.proofs.Lists.{list_course, along, along_is, loaded_plan, is_closed, unfetched, Running, never}
 use Rattle.runs.proofs.Plain.{plain_job}
-use Rattle.runs.proofs.ListJobs.{left_of, closing, table_left, list_row, along_by}
+use Rattle.runs.proofs.ListJobs.{closing, table_left, list_row, along_by}
 use Rattle.runs.proofs.Started.{Fresh, begun_fresh}
 
 -- a run that is cut before one of its turns

@@ -1,14 +1,12 @@
 -- A list job passes the addresses of its plan, and signals with the last of a closed one, until its table is written to.
-use Rattle.std.proofs.Common.{◌≡◌, ℕ, zero, suc, ◌+◌, ◌-◌, ◌*◌, ◌%◌, ◌<◌, ◌≤◌, Bool, true, false, cond, not, ◌&&◌, ◌||◌, eqb, ltb, leb, ◌⊎◌, List, [], ◌∷◌, ◌++◌, length, get_or, take, is_some, Some, None, Ok, Err, Option, sym, refl, ap, ◌∙◌, subst, ap₂, inl, inr, append_assoc, zero-add, arith}
+use Rattle.std.proofs.Common.{◌≡◌, ℕ, zero, suc, ◌+◌, ◌-◌, ◌*◌, ◌<◌, Bool, true, false, cond, ◌&&◌, ◌||◌, eqb, ◌⊎◌, List, [], ◌∷◌, ◌++◌, length, get_or, take, is_some, Some, None, Option, sym, refl, ap, ◌∙◌, subst, ap₂, inl, inr, append_assoc, zero-add, arith}
 use Rattle.bus.specs.declared.place.Course.{Course}
-use Rattle.bus.specs.Address.{moved_place}
 use Rattle.bus.specs.Plan.{planned, plan}
 use Rattle.bus.proofs.Plans.{plan_next}
-use Rattle.registers.specs.declared.channel.Channel.{Channel}
 use Rattle.registers.specs.File.{channel_of}
 use Rattle.controller.specs.declared.fetching.Fetched.{Fetched as Entry}
 use Rattle.controller.specs.Outside.{Outside}
-use Rattle.controller.specs.Passing.{course_of, passes, passed}
+use Rattle.controller.specs.Passing.{passed}
 use Rattle.controller.specs.Carrying.{above}
 use Rattle.controller.specs.Fetching.{most_entries, after_word, filled}
 use Rattle.controller.specs.Steps.{State}
@@ -24,7 +22,7 @@ use Rattle.runs.proofs.Turns.{from, to, Effect, still, closes, moves, fetches_on
 use Rattle.runs.proofs.Sound.{Sound, sound_kept}
 use Rattle.runs.proofs.Tables.{Agree, spared_agree, spared_tail, same_entries, after_entry, eight_more}
 use Rattle.runs.proofs.Lists.{along, buffer_plan, reserve_plan, loaded_plan, is_closed, unfetched, Running, never, own_course}
-use Rattle.runs.proofs.Entries.{Went, went, ending, behind, ends, Got, got}
+use Rattle.runs.proofs.Entries.{went, ending, behind, ends, got}
 
 -- the plan that is left, where a row is to come that stops the list after so many fetches, or does not
 abbrev pub left_of : Course → Part → Outside → Option ℕ → List ℕ

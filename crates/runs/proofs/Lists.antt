@@ -1,23 +1,17 @@
 -- What is left of a list's plan: the current entry, the reserve, and the entries not yet fetched.
-use Rattle.std.proofs.Common.{◌≡◌, ℕ, zero, suc, ◌+◌, ◌-◌, ◌*◌, ◌%◌, ◌<◌, ◌≤◌, Bool, true, false, cond, not, ◌&&◌, ◌||◌, eqb, ltb, leb, ◌⊎◌, List, [], ◌∷◌, ◌++◌, length, get_or, take, is_some, Some, None, Ok, Err, Option, Result, sym, refl, ap, ◌∙◌, subst, ap₂, inl, inr, append_assoc, append-nil, arith}
+use Rattle.std.proofs.Common.{◌≡◌, ℕ, suc, ◌-◌, Bool, true, false, cond, ◌||◌, eqb, List, [], ◌∷◌, ◌++◌, is_some, Some, None, Option, refl, ap, ◌∙◌, arith}
 use Rattle.bus.specs.declared.place.Course.{Course}
-use Rattle.bus.specs.Address.{moved_place}
-use Rattle.bus.specs.Plan.{planned, plan}
-use Rattle.bus.proofs.Plans.{plan_next}
+use Rattle.bus.specs.Plan.{plan}
 use Rattle.registers.specs.declared.channel.Channel.{Channel}
 use Rattle.registers.specs.declared.channel.Span.{Span}
 use Rattle.registers.specs.declared.list.Entry.{Entry as Buffer}
-use Rattle.registers.specs.declared.list.Signal.{Signal}
 use Rattle.controller.specs.declared.fetching.Fetched.{Fetched as Entry}
 use Rattle.controller.specs.Outside.{Outside}
-use Rattle.controller.specs.Passing.{course_of, passes, passed, stepped, entry_span, closed}
-use Rattle.controller.specs.Fetching.{fetch_of, filled, entry_at, most_entries}
-use Rattle.runs.specs.Words.{entries_from, ends_by_eol, entry_addresses, places}
-use Rattle.runs.specs.Law.{addresses_of, cut, closed_by, more}
+use Rattle.controller.specs.Passing.{course_of, passed, stepped, entry_span, closed}
+use Rattle.controller.specs.Fetching.{most_entries}
+use Rattle.runs.specs.Words.{entries_from, entry_addresses}
+use Rattle.runs.specs.Law.{addresses_of}
 use Rattle.runs.proofs.Parts.{Part, part_of}
-use Rattle.runs.proofs.Written.{with_stop}
-use Rattle.runs.proofs.Effects.{CanFetch}
-use Rattle.runs.proofs.Tables.{Agree, same_entries, fetched_is, entry_in, entries_more, after_entry, Readable}
 
 -- the course of a list's entries
 abbrev pub list_course : Part → Course

@@ -1,5 +1,5 @@
 -- The part of a channel's registers that its plan is worked out from, and what leaves it.
-use Rattle.std.proofs.Common.{◌≡◌, ℕ, ◌+◌, ◌%◌, ◌<◌, Bool, true, false, cond, eqb, ltb, List, [], ◌∷◌, length, get_or, Option, sym, refl, ap, ◌∙◌, arith}
+use Rattle.std.proofs.Common.{◌≡◌, ℕ, ◌%◌, Bool, true, false, ltb, get_or, Option, refl, arith}
 use Rattle.bus.specs.declared.place.Addressing.{Addressing}
 use Rattle.registers.specs.declared.channel.Channel.{Channel}
 use Rattle.registers.specs.declared.channel.Span.{Span}
@@ -11,7 +11,6 @@ use Rattle.registers.specs.Channels.{blank}
 use Rattle.registers.specs.Groups.{slot_of, each_slot}
 use Rattle.registers.specs.File.{channel_of, at_first, at_second}
 use Rattle.arbiter.proofs.Masks.{below_four}
-use Rattle.runs.proofs.Slots.{Four}
 
 pub record Part : Type 0 where
   pub current : Span

@@ -1,20 +1,18 @@
 -- A plain job passes the addresses of its plan, and signals with the last alone.
-use Rattle.std.proofs.Common.{◌≡◌, ℕ, zero, suc, ◌+◌, ◌-◌, ◌%◌, ◌<◌, ◌≤◌, Bool, true, false, cond, not, ◌&&◌, ◌||◌, eqb, ltb, ◌⊎◌, List, [], ◌∷◌, ◌++◌, length, get_or, is_some, Some, None, Option, sym, refl, ap, ◌∙◌, subst, ap₂, inl, inr, add_assoc, zero-add, arith}
+use Rattle.std.proofs.Common.{◌≡◌, ℕ, suc, ◌+◌, ◌-◌, ◌<◌, ◌≤◌, Bool, true, false, cond, eqb, List, [], ◌∷◌, length, is_some, Some, sym, refl, ap, ◌∙◌, subst, zero-add, arith}
 use Rattle.bus.specs.Plan.{planned, plan}
 use Rattle.bus.proofs.Plans.{planned_next, length-plan, get_or-plan}
 use Rattle.registers.specs.declared.channel.Channel.{Channel}
-use Rattle.registers.specs.declared.list.Signal.{Signal}
-use Rattle.registers.specs.declared.list.Signal.TheVariants.{Eop}
 use Rattle.registers.specs.File.{channel_of}
-use Rattle.controller.specs.Passing.{course_of, passes, passed, count_end, with_current, stepped}
+use Rattle.controller.specs.Passing.{course_of, passed, with_current, stepped}
 use Rattle.controller.specs.Steps.{State}
 use Rattle.runs.specs.declared.calls.Call.{Call}
-use Rattle.runs.specs.Calls.{Turn, run, ended, performed}
-use Rattle.runs.specs.Words.{Move, move_of, signalled, begins_job}
-use Rattle.runs.specs.Law.{NoneBegins, transfers, Along, PlainJob}
+use Rattle.runs.specs.Calls.{run, ended, performed}
+use Rattle.runs.specs.Words.{Move, move_of, begins_job}
+use Rattle.runs.specs.Law.{NoneBegins, transfers, PlainJob}
 use Rattle.runs.proofs.Runs.{turn_of}
 use Rattle.runs.proofs.Parts.{Part, part_of}
-use Rattle.runs.proofs.Turns.{from, to, Effect, still, closes, moves, fetches_one, effect, move_passes, begins_signals}
+use Rattle.runs.proofs.Turns.{Effect, still, closes, moves, fetches_one, effect, move_passes, begins_signals}
 use Rattle.runs.proofs.Sound.{Sound, sound_kept}
 
 -- what is left of a plain job: so many transfers after the next one, at these addresses

@@ -1,5 +1,5 @@
 -- Every port names one of the channels 0 to 7.
-use Rattle.std.proofs.Common.{◌≡◌, ℕ, ◌+◌, ◌-◌, ◌/◌, ◌%◌, ◌<◌, Bool, true, false, cond, eqb, ltb, Some, None, Option, sym, refl, subst, arith, lit<}
+use Rattle.std.proofs.Common.{◌≡◌, ℕ, ◌-◌, ◌/◌, ◌%◌, ◌<◌, Bool, true, false, cond, eqb, ltb, Some, None, Option, refl, arith, lit<}
 use Rattle.registers.specs.declared.ports.Dma.{Dma}
 use Rattle.registers.specs.declared.ports.Dma.TheVariants.{One, Two}
 use Rattle.registers.specs.declared.ports.Field.{Field}

@@ -1,8 +1,7 @@
 -- A run of one call more, the parts of a run, and what holds of each call of a run.
-use Rattle.std.proofs.Common.{◌≡◌, ℕ, zero, suc, ◌+◌, ◌<◌, List, [], ◌∷◌, ◌++◌, map, take, drop, sym, refl, ap, ◌∙◌, subst}
+use Rattle.std.proofs.Common.{◌≡◌, ℕ, zero, suc, List, [], ◌∷◌, ◌++◌, take, drop, refl, ap}
 use Rattle.controller.specs.Steps.{State}
 use Rattle.runs.specs.declared.calls.Call.{Call}
-use Rattle.runs.specs.declared.calls.Answer.{Answer}
 use Rattle.runs.specs.Calls.{Turn, run, ended, answers_of, performed}
 
 -- the turn that a call makes

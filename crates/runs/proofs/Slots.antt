@@ -1,12 +1,12 @@
 -- Looking a channel up after another is put: groups have four channels each.
-use Rattle.std.proofs.Common.{◌≡◌, ℕ, ◌+◌, ◌%◌, ◌<◌, ◌≤◌, Bool, true, false, cond, eqb, ltb, ◌≢◌, List, [], ◌∷◌, length, get_or, set, sym, refl, ap, ◌∙◌, arith}
+use Rattle.std.proofs.Common.{◌≡◌, ℕ, ◌%◌, ◌<◌, Bool, true, false, cond, eqb, ltb, ◌≢◌, List, length, get_or, set, refl, ap, ◌∙◌, arith}
 use Rattle.std.proofs.lemmas.List.{get_or-set_same, get_or-set_other, length-set}
 use Rattle.registers.specs.declared.channel.Channel.{Channel}
 use Rattle.registers.specs.declared.group.Group.{Group}
 use Rattle.registers.specs.declared.file.Registers.{Registers}
 use Rattle.registers.specs.Channels.{blank}
 use Rattle.registers.specs.Groups.{slot_of, with_slot}
-use Rattle.registers.specs.File.{channel_of, group_of, with_channel, at_group_of}
+use Rattle.registers.specs.File.{channel_of, with_channel}
 
 -- both groups have four channels
 abbrev pub Four : Registers → Type 0

@@ -1,5 +1,5 @@
 -- What stays true of the registers over every run: groups of four channels, and a service of one of them.
-use Rattle.std.proofs.Common.{◌≡◌, ℕ, ◌+◌, ◌/◌, ◌%◌, ◌<◌, Bool, true, false, cond, not, ◌&&◌, eqb, ltb, length, Some, None, Ok, Err, Option, Result, sym, refl, ap, ◌∙◌, subst, arith}
+use Rattle.std.proofs.Common.{◌≡◌, ℕ, ◌/◌, ◌%◌, ◌<◌, Bool, true, false, cond, not, ◌&&◌, eqb, ltb, length, Some, None, Ok, Err, Option, Result, sym, refl, subst, arith}
 use Rattle.arbiter.specs.declared.groups.Choice.{Choice}
 use Rattle.arbiter.specs.Groups.{Group as Side, Served, ServedBy}
 use Rattle.registers.specs.declared.channel.Channel.{Channel}
@@ -30,7 +30,7 @@ use Rattle.controller.specs.Outside.{Outside}
 use Rattle.controller.specs.Passing.{passed}
 use Rattle.controller.specs.Asking.{goes_on, fetches, first_fetching}
 use Rattle.controller.specs.Grants.{holds, out_to, cycled}
-use Rattle.controller.specs.Steps.{State, with_registers, with_world, with_bus, begun, served, moves, fills, lends, fetch_step, transfer_of, service_of, settled, serve, failed, ahead_of, choose_of, choice_of, ongoing, go_or_choose, step_at, step_of}
+use Rattle.controller.specs.Steps.{State, with_registers, with_world, with_bus, begun, served, moves, fills, lends, fetch_step, transfer_of, service_of, settled, serve, ahead_of, choose_of, choice_of, ongoing, go_or_choose, step_at}
 use Rattle.runs.specs.declared.calls.Call.{Call}
 use Rattle.runs.specs.declared.calls.Call.TheVariants as call
 use Rattle.runs.specs.Calls.{performed}

@@ -1,5 +1,5 @@
 -- A job that begins with its list active begins with Start: nothing loaded, and the next place is the table pointer.
-use Rattle.std.proofs.Common.{◌≡◌, ℕ, zero, suc, ◌+◌, ◌/◌, ◌%◌, ◌<◌, Bool, true, false, cond, not, ◌&&◌, ◌||◌, eqb, ltb, leb, get_or, is_some, Some, None, Option, Result, sym, refl, ap, ◌∙◌, subst, arith}
+use Rattle.std.proofs.Common.{◌≡◌, ℕ, ◌/◌, ◌%◌, ◌<◌, Bool, true, false, cond, not, ◌&&◌, ◌||◌, eqb, ltb, leb, get_or, is_some, Some, None, Option, sym, refl, ap, ◌∙◌, subst, arith}
 use Rattle.registers.specs.declared.channel.Channel.{Channel}
 use Rattle.registers.specs.declared.list.Entry.{Entry as Buffer}
 use Rattle.registers.specs.declared.group.Group.{Group}
@@ -14,20 +14,18 @@ use Rattle.registers.specs.declared.ports.Control.TheVariants.{Command, Request,
 use Rattle.registers.specs.declared.ports.WritePort.{WritePort}
 use Rattle.registers.specs.declared.ports.WritePort.TheVariants as target
 use Rattle.registers.specs.Ports.{write_port}
-use Rattle.registers.specs.Channels.{blank, cleared, with_list, commanded, halted, with_address, with_count, with_low, with_high, with_mode, with_extended_mode, with_list_command, list_begins}
+use Rattle.registers.specs.Channels.{blank, with_list, commanded, halted, with_address, with_count, with_low, with_high, with_mode, with_extended_mode, with_list_command, list_begins}
 use Rattle.registers.specs.Groups.{slot_of, flipped, cleared_group}
-use Rattle.registers.specs.File.{channel_of, with_channel, with_service, at_group_of, at_first, at_second, at_dma, programmed, picked, busy, high_byte, accepted_at, written_for, refusal_for, refusal_at, control_refusal, mode_refusal, extended_refusal, control_written, field_written, list_written}
+use Rattle.registers.specs.File.{channel_of, with_channel, at_group_of, at_first, at_second, at_dma, picked, busy, high_byte, accepted_at, written_for, refusal_for, refusal_at, control_refusal, control_written, field_written, list_written}
 use Rattle.controller.specs.Passing.{passed, closed}
 use Rattle.controller.specs.Steps.{State, step_of}
 use Rattle.arbiter.proofs.Masks.{below_four}
 use Rattle.runs.specs.declared.calls.Call.{Call}
 use Rattle.runs.specs.declared.calls.Call.TheVariants as call
-use Rattle.runs.specs.Calls.{Turn, performed}
-use Rattle.runs.specs.Words.{Move, begins_job, move_of, signalled, in_group, field_begins, control_begins, list_begins_for, write_begins}
+use Rattle.runs.specs.Calls.{performed}
+use Rattle.runs.specs.Words.{begins_job, signalled, in_group, field_begins, control_begins, list_begins_for, write_begins}
 use Rattle.runs.proofs.Runs.{turn_of}
 use Rattle.runs.proofs.Slots.{Four, channel_same}
-use Rattle.runs.proofs.Parts.{Part, part_of}
-use Rattle.runs.proofs.Ports.{Reaches, ReachesIf, port_reaches, picked_below}
 use Rattle.runs.proofs.Effects.{Stepped, rests, goes, gets}
 use Rattle.runs.proofs.Turns.{step_effect}
 use Rattle.runs.proofs.Sound.{Sound}

@@ -1,15 +1,13 @@
 -- A list's entries depend on the bytes of its table alone.
-use Rattle.std.proofs.Common.{◌≡◌, ℕ, zero, suc, ◌+◌, ◌-◌, ◌*◌, ◌%◌, ◌<◌, ◌≤◌, Bool, true, false, cond, not, ◌&&◌, ◌||◌, eqb, leb, ◌⊎◌, List, [], ◌∷◌, ◌++◌, length, Some, None, Ok, Err, Option, Result, sym, refl, ap, ◌∙◌, subst, ap₂, inl, inr, arith}
+use Rattle.std.proofs.Common.{◌≡◌, ℕ, zero, suc, ◌*◌, Bool, true, false, cond, eqb, ◌⊎◌, List, [], ◌∷◌, length, Some, None, Ok, Err, Option, sym, refl, ap, ◌∙◌, subst, ap₂, inl, inr, arith}
 use Rattle.memory.specs.declared.kinds.Kind.{Kind}
 use Rattle.controller.specs.declared.fault.Fault.{Fault}
 use Rattle.controller.specs.declared.fetching.Fetched.{Fetched as Entry}
-use Rattle.controller.specs.declared.fetching.Word.{Word}
 use Rattle.controller.specs.Outside.{Outside}
 use Rattle.controller.specs.Faults.{fault_of}
-use Rattle.controller.specs.Carrying.{above, named}
 use Rattle.controller.specs.Fetching.{four, after_word, first_absent, word_of, fetched_word, entry_of, entry_at}
-use Rattle.runs.specs.Words.{with_rest, entries_from, places}
-use Rattle.runs.specs.Law.{Misses, Spared, last_stored}
+use Rattle.runs.specs.Words.{entries_from, places}
+use Rattle.runs.specs.Law.{Spared, last_stored}
 
 -- two byte functions agree on some places
 abbrev pub Agree : (ℕ → ℕ) → (ℕ → ℕ) → List ℕ → Type 0

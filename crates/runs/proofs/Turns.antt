@@ -1,27 +1,23 @@
 -- What one turn of a run does to the plan of channel c while its job goes on.
-use Rattle.std.proofs.Common.{◌≡◌, ℕ, ◌+◌, ◌%◌, ◌<◌, Bool, true, false, cond, not, ◌&&◌, ◌||◌, eqb, ltb, ◌⊎◌, is_some, Some, None, Ok, Err, Option, Result, sym, refl, ap, ◌∙◌, subst, inl, inr, arith}
+use Rattle.std.proofs.Common.{◌≡◌, ℕ, ◌<◌, Bool, true, false, cond, ◌⊎◌, is_some, Some, None, Ok, Option, sym, refl, ap, ◌∙◌, subst, inl, arith}
 use Rattle.arbiter.specs.declared.groups.Choice.{Choice}
 use Rattle.registers.specs.declared.channel.Channel.{Channel}
-use Rattle.registers.specs.declared.file.Registers.{Registers}
 use Rattle.registers.specs.Ports.{write_port, read_port}
-use Rattle.registers.specs.File.{channel_of, written, refusal_for, with_service, over}
+use Rattle.registers.specs.File.{channel_of, written, with_service, over}
 use Rattle.controller.specs.declared.controller.Bus.{Bus}
 use Rattle.controller.specs.declared.controller.Bus.TheVariants.{Home, Out, Taken}
-use Rattle.controller.specs.declared.event.Event.{Event}
-use Rattle.controller.specs.declared.fault.Fault.{Fault}
 use Rattle.controller.specs.declared.fetching.Fetched.{Fetched as Found}
 use Rattle.controller.specs.Passing.{passes, passed}
-use Rattle.controller.specs.Asking.{first_fetching, fetches}
+use Rattle.controller.specs.Asking.{first_fetching}
 use Rattle.controller.specs.Fetching.{fetch_of as fetchedFrom, filled}
 use Rattle.controller.specs.Grants.{holds, out_to, cycled}
-use Rattle.controller.specs.Steps.{State, with_registers, with_world, with_bus, begun, fetch_step, settled, serve, ahead_of, choose_of, choice_of, ongoing, go_or_choose, step_at, step_of}
+use Rattle.controller.specs.Steps.{State, with_registers, with_world, with_bus, begun, ahead_of, choose_of, choice_of, ongoing, go_or_choose, step_at, step_of}
 use Rattle.runs.specs.declared.calls.Call.{Call}
 use Rattle.runs.specs.declared.calls.Call.TheVariants as call
-use Rattle.runs.specs.Calls.{Turn, performed}
-use Rattle.runs.specs.Words.{Move, move_of, fetch_of, stops, begins_job, stop_at, moved_by, of_channel, signalled}
+use Rattle.runs.specs.Calls.{Turn}
+use Rattle.runs.specs.Words.{Move, move_of, fetch_of, stops, begins_job, signalled}
 use Rattle.runs.proofs.Runs.{turn_of}
-use Rattle.runs.proofs.Slots.{Four}
-use Rattle.runs.proofs.Parts.{Part, part_of}
+use Rattle.runs.proofs.Parts.{part_of}
 use Rattle.runs.proofs.Ports.{port_reaches}
 use Rattle.runs.proofs.Written.{with_stop, Accessed, quiet, halts, write_effect, read_leaves_lem, lined_leaves}
 use Rattle.runs.proofs.Effects.{Ready, CanFetch, Stepped, rests, goes, gets, serve_steps, ahead_steps}

@@ -1,5 +1,5 @@
 -- What a driver's access does to the plan of a channel whose job goes on: nothing, but for a Stop.
-use Rattle.std.proofs.Common.{◌≡◌, ℕ, ◌+◌, ◌/◌, ◌%◌, ◌<◌, Bool, true, false, cond, not, ◌&&◌, ◌||◌, eqb, ltb, ◌⊎◌, Some, None, Option, sym, refl, ap, ◌∙◌, inl, inr, arith}
+use Rattle.std.proofs.Common.{◌≡◌, ℕ, ◌/◌, ◌%◌, ◌<◌, Bool, true, false, cond, ◌&&◌, eqb, ltb, ◌⊎◌, Some, None, Option, sym, refl, ap, ◌∙◌, inl, inr, arith}
 use Rattle.registers.specs.declared.channel.Channel.{Channel}
 use Rattle.registers.specs.declared.group.Group.{Group}
 use Rattle.registers.specs.declared.file.Registers.{Registers}
@@ -13,14 +13,14 @@ use Rattle.registers.specs.declared.ports.WritePort.{WritePort}
 use Rattle.registers.specs.declared.ports.WritePort.TheVariants as target
 use Rattle.registers.specs.declared.ports.ReadPort.{ReadPort}
 use Rattle.registers.specs.declared.ports.ReadPort.TheVariants as source
-use Rattle.registers.specs.Modes.{flag, mode_of}
-use Rattle.registers.specs.Channels.{with_table_byte, with_list_command, with_list, commanded, halted, stopped_list, list_begins, with_request, with_mask, with_line, with_terminal, with_mode, with_extended_mode}
+use Rattle.registers.specs.Modes.{flag}
+use Rattle.registers.specs.Channels.{with_table_byte, with_list_command, list_begins, with_mask, with_line, with_terminal}
 use Rattle.registers.specs.Groups.{slot_of, flipped, with_command, with_pointer, with_masks, with_lines, without_terminals, cleared_group}
-use Rattle.registers.specs.File.{channel_of, with_channel, with_service, at_first, at_second, at_group_of, at_dma, programmed, picked, over, over_in, accepted_at, written_at, written_for, refusal_for, refusal_at, control_written, field_written, list_written, read_for, read_at, field_read, lined}
+use Rattle.registers.specs.File.{channel_of, with_channel, at_first, at_second, at_group_of, at_dma, programmed, picked, accepted_at, written_for, refusal_for, refusal_at, control_written, field_written, list_written, read_for, read_at, lined}
 use Rattle.controller.specs.Steps.{State}
 use Rattle.runs.specs.Words.{in_group, field_begins, control_begins, list_begins_for, write_begins, stop_at}
 use Rattle.runs.proofs.Slots.{Four, channel_with, channel_same, channel_other}
-use Rattle.runs.proofs.Parts.{Part, part_of, Leaves, each_leaves, first_leaves, second_leaves}
+use Rattle.runs.proofs.Parts.{Part, part_of, each_leaves, first_leaves, second_leaves}
 use Rattle.runs.proofs.Ports.{Reaches, ReachesIf, picked_below}
 
 -- a part after Stop

@@ -1,5 +1,5 @@
 -- The machine: what each call does, and what it answers.
-use Rattle.std.specs.Prelude.{ℕ, Bool, true, false, cond, eqb, List, [], ◌∷◌, map, Some, None, Option}
+use Rattle.std.specs.Prelude.{ℕ, List, [], ◌∷◌, map, Some, None, Option}
 use Rattle.std.proofs.Math.Path as Path
 use Rattle.registers.specs.File.{write_number, written, read_number, read_value, read_leaves, lines_number, lined}
 use Rattle.controller.specs.declared.controller.Bus.{Bus}

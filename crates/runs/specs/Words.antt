@@ -1,9 +1,8 @@
 -- The words of the law: what a turn of a run moved, stored, fetched and began, and the table of a list.
-use Rattle.std.specs.Prelude.{ℕ, zero, suc, ◌+◌, ◌*◌, ◌/◌, ◌%◌, Bool, true, false, cond, not, ◌&&◌, ◌||◌, List, [], ◌∷◌, ◌++◌, length, is_some, Some, None, Ok, Err, Option, Result, ◌==◌, nat_lt}
+use Rattle.std.specs.Prelude.{ℕ, zero, suc, ◌*◌, ◌/◌, ◌%◌, Bool, true, false, cond, not, ◌&&◌, ◌||◌, List, [], ◌∷◌, length, is_some, Some, None, Ok, Err, Option, Result, ◌==◌, nat_lt}
 use Rattle.arbiter.specs.declared.groups.Choice.{Choice}
 use Rattle.bus.specs.declared.place.Addressing.{Addressing}
 use Rattle.bus.specs.declared.place.Addressing.TheVariants.{Bytes, Words}
-use Rattle.bus.specs.declared.place.Course.{Course}
 use Rattle.bus.specs.Plan.{plan}
 use Rattle.registers.specs.declared.channel.Channel.{Channel}
 use Rattle.registers.specs.declared.list.Signal.{Signal}

@@ -2,7 +2,7 @@
 use Rattle.std.proofs.Common.{◌≡◌, ℕ, ◌+◌, ◌<◌, ◌≤◌, List, [], ◌∷◌, ◌++◌, map, length, get_or, take, drop, set, sym, ap, ◌∙◌, arith}
 use Rattle.std.proofs.lemmas.List.{take_more_set, map_push, length-map, length-take-le, drop-set-lt, drop-drop, get_or-map, drop_more, take_more}
 use Rattle.script.specs.declared.command.Command.{Command}
-use Rattle.script.specs.Commands.{Order, order_of}
+use Rattle.script.specs.Commands.{order_of}
 
 module _ (commands : List Command) (count : ℕ) where
   pub placed_length : count ≤ length commands → length (map order_of (take count commands)) ≡ count

@@ -1,4 +1,4 @@
-use Rattle.std.proofs.Common.{◌≡◌, ◌<◌, length, take, drop, None, sym, refl, ◌∙◌, arith}
+use Rattle.std.proofs.Common.{◌≡◌, take, None, refl, ◌∙◌, arith}
 use Rattle.controller.specs.Outside.{Outside, outside}
 use Rattle.controller.specs.Steps.{State, state_of, fresh}
 use Rattle.controller.specs.declared.controller.Bus.TheVariants.{Home}

@@ -1,4 +1,4 @@
-use Rattle.std.proofs.Common.{sym, refl, rules}
+use Rattle.std.proofs.Common.{sym}
 use Rattle.controller.specs.Outside.{outside}
 use Rattle.controller.specs.Steps.{state_of}
 use Rattle.controller.proofs.Chosen.{chosen_serves}

@@ -1,4 +1,4 @@
-use Rattle.std.proofs.Common.{◌≡◌, sym, ap, ◌∙◌}
+use Rattle.std.proofs.Common.{ap}
 use Rattle.controller.specs.Outside.{outside}
 use Rattle.controller.specs.Steps.{State, state_of}
 use Rattle.runs.specs.declared.calls.Answer.TheVariants as told

@@ -1,4 +1,4 @@
-use Rattle.std.proofs.Common.{◌≡◌, sym, refl, ap, ◌∙◌, ap₂}
+use Rattle.std.proofs.Common.{ap, ◌∙◌, ap₂}
 use Rattle.registers.specs.File.{written, read_leaves, lined}
 use Rattle.controller.specs.Steps.{state_of, with_registers}
 use Rattle.controller.specs.declared.inspect.Inspection.{Inspection}

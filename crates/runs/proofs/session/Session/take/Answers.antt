@@ -1,9 +1,7 @@
-use Rattle.std.proofs.Common.{◌≡◌, Some, sym, ap, ◌∙◌, subst, ap₂}
+use Rattle.std.proofs.Common.{Some, sym, ◌∙◌, subst, ap₂}
 use Rattle.controller.specs.declared.controller.Bus.{Bus}
-use Rattle.controller.specs.declared.grant.Grant.{Grant}
-use Rattle.controller.specs.Outside.{Outside}
 use Rattle.controller.specs.Steps.{with_bus, state_of}
-use Rattle.controller.specs.Grants.{take_number, took_bus}
+use Rattle.controller.specs.Grants.{took_bus}
 use Rattle.runs.specs.Calls.{Holding}
 use Rattle.runs.specs.declared.calls.Answer.TheVariants as told
 use Rattle.runs.proofs.Held.{refusal_shows, not_taken, taken, bus_of}
