@@ -81,6 +81,10 @@ def definitions():
     for p in files("crates/*/src/*.rt"):
         for m in re.finditer(r"ghost (\w+)(?::| =)", open(p, encoding="utf-8").read()):
             found[m.group(1)].add(p)
+    # names that an import gives
+    for p in files(*EVERY):
+        for m in re.finditer(r" as (\w+)[,}]", open(p, encoding="utf-8").read()):
+            found[m.group(1)].add(p)
     return found
 
 

@@ -4,7 +4,7 @@ use Rattle.std.specs.Option.{unwrap_or}
 use Rattle.arbiter.specs.declared.groups.Side.{Side}
 use Rattle.arbiter.specs.declared.groups.Choice.{Choice}
 use Rattle.arbiter.specs.Slots.{mask_of}
-use Rattle.arbiter.specs.Groups.{winner_of, group_of as sideGroup}
+use Rattle.arbiter.specs.Groups.{winner_of, group_of as side_group}
 use Rattle.registers.specs.declared.group.Group.{Group}
 use Rattle.registers.specs.declared.file.Registers.{Registers}
 use Rattle.registers.specs.Modes.{is_cascade}
@@ -54,7 +54,7 @@ second_side k = record { asking = mask_of false (asks k 5) (asks k 6) (asks k 7)
 
 -- the choice between all channels that ask
 abbrev pub choice_of : Registers → Option Choice
-choice_of k = winner_of (sideGroup (first_side k)) (sideGroup (second_side k))
+choice_of k = winner_of (side_group (first_side k)) (side_group (second_side k))
 
 -- the slot last chosen
 abbrev pub with_last : ℕ → Group → Group

@@ -1,6 +1,6 @@
 // A memory of one's own: a read-only picture of another.
 //
-// A memory says what its kinds and bytes are by `kindAt` and `byteAt`, and then each function is proved to do what the trait
+// A memory says what its kinds and bytes are by `kind_at` and `byte_at`, and then each function is proved to do what the trait
 // says of them. Here all of it follows by itself, so there is no proof file.
 ghost use Rattle.std.specs.Prelude.{◌≡◌};
 ghost use Rattle.picture.specs.Pictures.{pictured};

@@ -1,6 +1,6 @@
 // A bank whose units count up.
 ghost use Rattle.std.specs.Prelude.{◌≡◌, []};
-ghost use Rattle.ports.specs.Ramps.{ramps_from, ramp_waiting, counting as countingUp};
+ghost use Rattle.ports.specs.Ramps.{ramps_from, ramp_waiting, counting as counting_up};
 
 use crate::bank::{PortBank, is_channel};
 use crate::faults::PortFault;
@@ -25,7 +25,7 @@ impl RampBank {
 
     /// So many units on each channel, from the channel's number on.
     pub fn counting(count: u32) -> RampBank
-        ensures { ramp_waiting result ≡ countingUp count }
+        ensures { ramp_waiting result ≡ counting_up count }
     {
         RampBank::new([0, 1, 2, 3, 4, 5, 6, 7], [count; 8])
     }

@@ -24,10 +24,10 @@ module _ (script bytes block : List ℕ) where
 
   -- the bytes make a block
   module _ (fits : fits_at 0 (length bytes) ≡ true) (kinds : ℕ → Kind) (shown : ℕ → ℕ) (waiting : ℕ → List ℕ)
-      (isKinds : kinds ≡ kind_from (kind_of_all (fits_at 0 (length bytes)) true) 0 (length bytes)) (isShown : shown ≡ byte_from 0 bytes) (isWaiting : waiting ≡ counting 256) where
+      (is_kinds : kinds ≡ kind_from (kind_of_all (fits_at 0 (length bytes)) true) 0 (length bytes)) (is_shown : shown ≡ byte_from 0 bytes) (is_waiting : waiting ≡ counting 256) where
     runs : run_of script (length block) (opened 64 (outside kinds shown waiting (λ c. []) (λ c. 0))) ≡ host_run script bytes (length block)
     runs =
-        (λ i. run_of script (length block) (opened 64 (outside ((isKinds ∙ ap (λ b. kind_from (kind_of_all b true) 0 (length bytes)) fits) i) (isShown i) (isWaiting i) (λ c. []) (λ c. 0))))
+        (λ i. run_of script (length block) (opened 64 (outside ((is_kinds ∙ ap (λ b. kind_from (kind_of_all b true) 0 (length bytes)) fits) i) (is_shown i) (is_waiting i) (λ c. []) (λ c. 0))))
         ∙ sym (cond-true _ _ _ fits)
 
     pub host_answers : (number size : ℕ) (out : List ℕ) → Answered (run_of script (length block) (opened 64 (outside kinds shown waiting (λ c. []) (λ c. 0)))) block number size out

@@ -11,8 +11,7 @@ use ports::RampBank;
 const UNITS: u32 = 256;
 
 /// Runs a script on a new controller, with the host's bytes as memory from 0 on and its output for the answers.
-#[unsafe(no_mangle)]
-pub extern "C" fn sillmint_run(script: &[u8], memory: &mut [u8], output: &mut [u8]) -> Outcome
+pub fn sillmint_run(script: &[u8], memory: &mut [u8], output: &mut [u8]) -> Outcome
     ensures answers { Answered (host_run script.now memory.old (length output.old)) output.old result.refusal result.length output.new }
     ensures memory { memory.new ≡ host_bytes script.now memory.old (length output.old) }
 {

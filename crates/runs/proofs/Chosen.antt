@@ -1,7 +1,7 @@
 -- The slots last chosen in both groups are slots, after every call.
 use Rattle.std.proofs.Common.{◌≡◌, ℕ, ◌<◌, Some, None, Option, unwrap_or, sym, refl, subst, arith}
 use Rattle.arbiter.specs.declared.groups.Choice.{Choice}
-use Rattle.arbiter.specs.Groups.{Group, group_of as sideGroup, ServedBy, Served, Won}
+use Rattle.arbiter.specs.Groups.{Group, group_of as side_group, ServedBy, Served, Won}
 use Rattle.arbiter.proofs.Winners.{won}
 use Rattle.registers.specs.declared.file.Registers.{Registers}
 use Rattle.registers.specs.declared.ports.Dma.TheVariants.{One, Two}
@@ -23,10 +23,10 @@ Slots l = (l.0 < 4) × (l.1 < 4)
 
 -- both groups, as a choice sees them
 abbrev pub first_group : Registers → Group
-first_group k = sideGroup (first_side k)
+first_group k = side_group (first_side k)
 
 abbrev pub second_group : Registers → Group
-second_group k = sideGroup (second_side k)
+second_group k = side_group (second_side k)
 
 -- the laws of the choice between all channels that ask
 pub choice_won : (k : Registers) → Won (first_group k) (second_group k) (choice_of k)

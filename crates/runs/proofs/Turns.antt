@@ -9,7 +9,7 @@ use Rattle.controller.specs.declared.controller.Bus.TheVariants.{Home, Out, Take
 use Rattle.controller.specs.declared.fetching.Fetched.{Fetched as Found}
 use Rattle.controller.specs.Passing.{passes, passed}
 use Rattle.controller.specs.Asking.{first_fetching}
-use Rattle.controller.specs.Fetching.{fetch_of as fetchedFrom, filled}
+use Rattle.controller.specs.Fetching.{fetch_of as fetched_from, filled}
 use Rattle.controller.specs.Grants.{holds, out_to, cycled}
 use Rattle.controller.specs.Steps.{State, with_registers, with_world, with_bus, begun, ahead_of, choose_of, choice_of, ongoing, go_or_choose, step_at, step_of}
 use Rattle.runs.specs.declared.calls.Call.{Call}
@@ -42,7 +42,7 @@ pub data Effect (c : ℕ) (t : Turn) : Type 0 where
       → m.signal ≡ (passed (from c t)).signal → to c t ≡ (passed (from c t)).channel → Ready (from c t) → Effect c t
   -- a fetch
   fetches_one : (x : Found) → move_of c t ≡ None → fetch_of c t ≡ Some (from c t).list.next → stops c t ≡ false
-      → fetchedFrom t.before.world.kinds t.before.world.bytes c (from c t).list ≡ Ok x
+      → fetched_from t.before.world.kinds t.before.world.bytes c (from c t).list ≡ Ok x
       → to c t ≡ filled x (from c t) → CanFetch (from c t) → t.after.world ≡ t.before.world → Effect c t
 
 module _ (c : ℕ) (hc : c < 8) where

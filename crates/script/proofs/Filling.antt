@@ -71,7 +71,7 @@ module _ (first : List ℕ) (orders : List Order) (i size : ℕ) (block : List �
     pub written_reads_back : ScriptReadsBack (fitting (length first) orders)
     written_reads_back = rw end (script_reads_back (take i orders) so.back)
 
-  module _ (order : Order) (here : drop i orders ≡ order ∷ drop (i + 1) orders) (front : take (i + 1) orders ≡ take i orders ++ order ∷ []) (part : List ℕ) (isPart : part ≡ block_after (take (length block - size) (drop size block)) (bytes_of order)) where
+  module _ (order : Order) (here : drop i orders ≡ order ∷ drop (i + 1) orders) (front : take (i + 1) orders ≡ take i orders ++ order ∷ []) (part : List ℕ) (is_part : part ≡ block_after (take (length block - size) (drop size block)) (bytes_of order)) where
     script_more : script_of (take i orders) ++ bytes_of order ≡ script_of (take (i + 1) orders)
     script_more = flat_map_more bytes_of [] (take i orders) order ∙ ap script_of (sym front)
 
@@ -81,7 +81,7 @@ module _ (first : List ℕ) (orders : List Order) (i size : ℕ) (block : List �
         let known = size_ok (take (length block - size) (drop size block)) bytes k answer in
         let place : length bytes ≤ length first - size = simp length-drop at (rw part_is at known.0) in
         let past : part ≡ bytes ++ drop k (drop size first) =
-        isPart
+        is_part
         ∙ cond-false _ _ _ (le-ltb _ _ known.0)
         ∙ ap (λ u. bytes ++ drop (length bytes) u) part_is
         ∙ ap (λ m. bytes ++ drop m (drop size first)) (sym known.1)
@@ -109,7 +109,7 @@ module _ (first : List ℕ) (orders : List Order) (i size : ℕ) (block : List �
     filling_full number answer =
         let known = size_refused (take (length block - size) (drop size block)) (bytes_of order) number answer in
         let full : length first - size < length (bytes_of order) = simp length-drop at (rw part_is at known.0) in
-        let past : part ≡ drop size first = isPart ∙ cond-true _ _ _ (lt-ltb _ _ known.0) ∙ part_is in (
+        let past : part ≡ drop size first = is_part ∙ cond-true _ _ _ (lt-ltb _ _ known.0) ∙ part_is in (
           ends (ap (fitting (length first - size)) here ∙ fits_none (length first - size) order (drop (i + 1) orders) full),
           record { fits = so.fits; sized = so.sized; within = so.within; filled = block_is part ∙ ap (λ u. script_of (take i orders) ++ u) past; back = so.back },
           known.1,

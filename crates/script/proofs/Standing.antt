@@ -54,9 +54,9 @@ module _ (s : List ℕ) where
         there (Put n bytes) s rest (omega arith, eight) (cc)
 
 -- Eight bytes and the rest, as they are split off.
-module _ (s bytes rest : List ℕ) (isBytes : bytes ≡ take 8 s) (is_rest : rest ≡ drop 8 s) where
+module _ (s bytes rest : List ℕ) (is_bytes : bytes ≡ take 8 s) (is_rest : rest ≡ drop 8 s) where
   pub split_whole : s ≡ bytes ++ rest
   split_whole = sym (take-append-drop 8 s) ∙ (cc)
 
   pub split_eight : length rest + 8 ≡ length s → length bytes ≡ 8
-  split_eight size = rw isBytes (simp length-take (omega arith))
+  split_eight size = rw is_bytes (simp length-take (omega arith))
