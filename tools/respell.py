@@ -91,6 +91,8 @@ def definitions():
 def main():
     dry = "--dry" in sys.argv
     found = definitions()
+    if "kindAt" not in found:
+        sys.exit("respell: the names here are respelled already; a second run would give some of them a third name")
     top = re.compile(r"^(?:abbrev |unfoldable )?pub ([a-z]\S*) :", re.M)
     plain = {snake(n) for p in files("crates/*/specs/*.antt") for n in top.findall(open(p, encoding="utf-8").read())} | set(WORDS)
     turn = {}
