@@ -5,7 +5,7 @@ ghost use Rattle.arbiter.specs.Groups.{Won, group_of, second_choice};
 use crate::slots::choose;
 
 // One group: a mask of the slots that ask, its priority, and the slot last chosen.
-#[derive(Clone, Copy)]
+#[derive(Clone, Copy, PartialEq, Eq, Debug)]
 pub struct Side {
     pub asking: u8,
     pub rotating: bool,
@@ -13,7 +13,7 @@ pub struct Side {
 }
 
 // The channel that gets the bus, the slot chosen in the second group, and that in the first if it chose.
-#[derive(Clone, Copy)]
+#[derive(Clone, Copy, PartialEq, Eq, Debug)]
 pub struct Choice {
     pub channel: u8,
     pub second: u8,

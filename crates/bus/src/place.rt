@@ -4,7 +4,7 @@ ghost use Rattle.bus.specs.Address.{address_of, moved_place, place_at, unit_of};
 ghost use Rattle.bus.specs.Plan.{plan, planned};
 
 // The address register, the low page and the high page.
-#[derive(Clone, Copy)]
+#[derive(Clone, Copy, PartialEq, Eq, Debug)]
 pub struct Place {
     pub address: u16,
     pub low: u8,
@@ -12,14 +12,14 @@ pub struct Place {
 }
 
 // What the address register counts: bytes, or words whose address is shifted by one bit.
-#[derive(Clone, Copy)]
+#[derive(Clone, Copy, PartialEq, Eq, Debug)]
 pub enum Addressing {
     Bytes,
     Words,
 }
 
 // How an address moves: by which unit, over the whole 32 bits or not, down or up.
-#[derive(Clone, Copy)]
+#[derive(Clone, Copy, PartialEq, Eq, Debug)]
 pub struct Course {
     pub addressing: Addressing,
     pub extended: bool,

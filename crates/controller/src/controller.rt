@@ -9,7 +9,7 @@ use registers::file::Registers;
 use registers::refusal::Refusal;
 
 // Where the bus is: here, sent out to a cascade channel, or taken by its bus master.
-#[derive(Clone, Copy)]
+#[derive(Clone, Copy, PartialEq, Eq, Debug)]
 pub enum Bus {
     Home,
     Out(u8),

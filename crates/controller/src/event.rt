@@ -1,7 +1,7 @@
 // What a step did.
 use registers::list::Signal;
 
-#[derive(Clone, Copy)]
+#[derive(Clone, Copy, PartialEq, Eq, Debug)]
 pub enum Event {
     // nothing to do
     Idle,

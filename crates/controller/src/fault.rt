@@ -5,7 +5,7 @@ ghost use Rattle.controller.specs.Faults.{cause_number, layer_of, of_memory, of_
 use memory::MemoryFault;
 use ports::PortFault;
 
-#[derive(Clone, Copy)]
+#[derive(Clone, Copy, PartialEq, Eq, Debug)]
 pub enum Cause {
     Absent,
     ReadOnly,
@@ -18,14 +18,14 @@ pub enum Cause {
 }
 
 // The layer that refused.
-#[derive(Clone, Copy)]
+#[derive(Clone, Copy, PartialEq, Eq, Debug)]
 pub enum Layer {
     Memory,
     Port,
     Table,
 }
 
-#[derive(Clone, Copy)]
+#[derive(Clone, Copy, PartialEq, Eq, Debug)]
 pub struct Fault {
     pub cause: Cause,
     pub channel: u8,

@@ -13,14 +13,14 @@ use registers::list::{Entry, List};
 pub const MOST_ENTRIES: u16 = 4096;
 
 // A word of the table, and the place after it.
-#[derive(Clone, Copy)]
+#[derive(Clone, Copy, PartialEq, Eq, Debug)]
 pub struct Word {
     pub value: u32,
     pub next: u32,
 }
 
 // An entry, whether it ends the list, and the place after it.
-#[derive(Clone, Copy)]
+#[derive(Clone, Copy, PartialEq, Eq, Debug)]
 pub struct Fetched {
     pub entry: Entry,
     pub last: bool,

@@ -13,13 +13,13 @@ pub struct Grant {
 }
 
 // A cycle of a bus master: one byte.
-#[derive(Clone, Copy)]
+#[derive(Clone, Copy, PartialEq, Eq, Debug)]
 pub enum Cycle {
     Read { address: u32 },
     Write { address: u32, byte: u8 },
 }
 
-#[derive(Clone, Copy)]
+#[derive(Clone, Copy, PartialEq, Eq, Debug)]
 pub enum BusRefusal {
     NotOffered,
     NotGranted,

@@ -12,7 +12,7 @@ use registers::group::BytePointer;
 use registers::refusal::Refusal;
 
 // A channel's current address and count.
-#[derive(Clone, Copy)]
+#[derive(Clone, Copy, PartialEq, Eq, Debug)]
 pub struct Inspection {
     pub address: u16,
     pub count: u16,

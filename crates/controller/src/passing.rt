@@ -8,7 +8,7 @@ use registers::list::{Entry, List, Signal};
 use registers::mode::Service;
 
 // What a transfer leaves: the channel, the signal that it gives, and whether the service is over.
-#[derive(Clone, Copy)]
+#[derive(Clone, Copy, PartialEq, Eq, Debug)]
 pub struct Passed {
     pub channel: Channel,
     pub signal: Option<Signal>,

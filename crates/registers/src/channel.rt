@@ -9,13 +9,13 @@ use crate::refusal::Refusal;
 use bus::place::{Addressing, Place};
 
 // Where a channel stands, and how many transfers follow the next one.
-#[derive(Clone, Copy)]
+#[derive(Clone, Copy, PartialEq, Eq, Debug)]
 pub struct Span {
     pub place: Place,
     pub count: u16,
 }
 
-#[derive(Clone, Copy)]
+#[derive(Clone, Copy, PartialEq, Eq, Debug)]
 pub struct Channel {
     pub base: Span,
     pub current: Span,

@@ -8,7 +8,7 @@ use crate::group::Group;
 use crate::ports::Dma;
 use bus::place::Addressing;
 
-#[derive(Clone, Copy)]
+#[derive(Clone, Copy, PartialEq, Eq, Debug)]
 pub struct Registers {
     pub first: Group,
     pub second: Group,

@@ -8,12 +8,12 @@ use crate::ports::Control;
 use bus::place::Addressing;
 
 // Which byte of a 16-bit register the next access moves.
-#[derive(Clone, Copy)]
+#[derive(Clone, Copy, PartialEq, Eq, Debug)]
 pub struct BytePointer {
     pub high: bool,
 }
 
-#[derive(Clone, Copy)]
+#[derive(Clone, Copy, PartialEq, Eq, Debug)]
 pub struct Group {
     pub channels: [Channel; 4],
     pub disabled: bool,

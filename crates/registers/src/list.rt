@@ -3,20 +3,20 @@ ghost use Rattle.std.specs.Prelude.{◌≡◌};
 ghost use Rattle.registers.specs.Channels.{rest_list, commanded, started, list_status, selected, table_byte};
 
 // How the end of a list is signalled.
-#[derive(Clone, Copy)]
+#[derive(Clone, Copy, PartialEq, Eq, Debug)]
 pub enum Signal {
     Eop,
     Irq13,
 }
 
 // A buffer of a list: where it begins, and its number of transfers less one.
-#[derive(Clone, Copy)]
+#[derive(Clone, Copy, PartialEq, Eq, Debug)]
 pub struct Entry {
     pub address: u32,
     pub count: u16,
 }
 
-#[derive(Clone, Copy)]
+#[derive(Clone, Copy, PartialEq, Eq, Debug)]
 pub struct List {
     pub pointer: u32,
     pub next: u32,

@@ -3,7 +3,7 @@ ghost use Rattle.std.specs.Prelude.{◌≡◌};
 ghost use Rattle.registers.specs.Modes.{rest_mode, mode_of, service_of, transfer_of};
 
 // How a service goes on: while the request lasts, one transfer, to the end of the count, or by lending the bus.
-#[derive(Clone, Copy)]
+#[derive(Clone, Copy, PartialEq, Eq, Debug)]
 pub enum Service {
     Demand,
     Single,
@@ -12,14 +12,14 @@ pub enum Service {
 }
 
 // Which way a unit goes; a write goes from the device to memory.
-#[derive(Clone, Copy)]
+#[derive(Clone, Copy, PartialEq, Eq, Debug)]
 pub enum Transfer {
     Verify,
     Write,
     Read,
 }
 
-#[derive(Clone, Copy)]
+#[derive(Clone, Copy, PartialEq, Eq, Debug)]
 pub struct Mode {
     pub service: Service,
     pub decrement: bool,

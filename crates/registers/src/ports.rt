@@ -3,14 +3,14 @@ ghost use Rattle.std.specs.Prelude.{◌≡◌};
 ghost use Rattle.registers.specs.Ports.{span_port, page_port, table_port, field_port, control_port, list_channel, write_port, read_port};
 
 // One of the two groups of four channels.
-#[derive(Clone, Copy)]
+#[derive(Clone, Copy, PartialEq, Eq, Debug)]
 pub enum Dma {
     One,
     Two,
 }
 
 // A channel's register that is both read and written; of the table pointer, which byte.
-#[derive(Clone, Copy)]
+#[derive(Clone, Copy, PartialEq, Eq, Debug)]
 pub enum Field {
     Address,
     Count,
@@ -20,7 +20,7 @@ pub enum Field {
 }
 
 // A group's register that is written.
-#[derive(Clone, Copy)]
+#[derive(Clone, Copy, PartialEq, Eq, Debug)]
 pub enum Control {
     Command,
     Request,
@@ -34,7 +34,7 @@ pub enum Control {
 }
 
 // What a write reaches.
-#[derive(Clone, Copy)]
+#[derive(Clone, Copy, PartialEq, Eq, Debug)]
 pub enum WritePort {
     Field(Field, u8),
     ListCommand(u8),
@@ -42,7 +42,7 @@ pub enum WritePort {
 }
 
 // What a read reaches.
-#[derive(Clone, Copy)]
+#[derive(Clone, Copy, PartialEq, Eq, Debug)]
 pub enum ReadPort {
     Field(Field, u8),
     ListStatus(u8),

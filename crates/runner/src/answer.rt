@@ -11,7 +11,7 @@ use script::fault::ScriptFault;
 use script::writer::place;
 
 /// What a command answers. A refusal is a number, 0 if there is none.
-#[derive(Clone, Copy)]
+#[derive(Clone, Copy, PartialEq, Eq, Debug)]
 pub enum Answer {
     Out { refusal: u8 },
     In { refusal: u8, value: u8 },

@@ -16,7 +16,7 @@ pub const NOTICES: usize = 64;
 
 /// The refusal that ended a run, 0 if it was the script's end, and how many bytes were answered.
 #[repr(C)]
-#[derive(Clone, Copy)]
+#[derive(Clone, Copy, PartialEq, Eq, Debug)]
 pub struct Outcome {
     pub refusal: u32,
     pub length: usize,

@@ -4,7 +4,7 @@ use controller::fault::Fault;
 use controller::grant::Cycle;
 
 // One call of the controller's eight.
-#[derive(Clone, Copy)]
+#[derive(Clone, Copy, PartialEq, Eq, Debug)]
 pub enum Call {
     Write { port: u16, value: u8 },
     Read { port: u16 },
@@ -17,7 +17,7 @@ pub enum Call {
 }
 
 // What a call answered: the number of its refusal, 0 where it was accepted, and its values, 0 where they do not apply.
-#[derive(Clone, Copy)]
+#[derive(Clone, Copy, PartialEq, Eq, Debug)]
 pub enum Answer {
     Write {
         refusal: u8,

@@ -13,7 +13,7 @@ pub const PUT: u8 = 0x05;
 pub const NEXT: u8 = 0x06;
 
 // A command with its operands; the bytes of PUT are a part of the script.
-#[derive(Clone, Copy, Debug)]
+#[derive(Clone, Copy, PartialEq, Eq, Debug)]
 pub enum Command<'a> {
     Out { port: u16, value: u8 },
     In { port: u16 },

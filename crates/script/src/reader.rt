@@ -67,7 +67,7 @@ impl<'a> Script<'a> {
 }
 
 // How many commands were read, and what ended the reading before the script's end.
-#[derive(Clone, Copy)]
+#[derive(Clone, Copy, PartialEq, Eq, Debug)]
 pub struct Parsed {
     pub count: usize,
     pub refusal: Option<ScriptFault>,

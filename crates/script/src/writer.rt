@@ -59,7 +59,7 @@ impl Command<'_> {
 }
 
 // How many bytes were written, and what ended the writing before the last command.
-#[derive(Clone, Copy)]
+#[derive(Clone, Copy, PartialEq, Eq, Debug)]
 pub struct Written {
     pub size: usize,
     pub refusal: Option<ScriptFault>,
