@@ -1,7 +1,6 @@
-// One group of four slots: who asks is a mask, and the first that asks from the start on wins.
+// Four slots: who asks is a mask, and the first that asks from a start on is found in it.
 ghost use Rattle.std.specs.Prelude.{◌≡◌, ℕ, ◌<◌, Some};
-ghost use Rattle.arbiter.specs.Slots.{asks_in, first_from, flag_of, mask_of, start_of};
-ghost use Rattle.arbiter.specs.Waiting.{Chosen};
+ghost use Rattle.arbiter.specs.Slots.{asks_in, first_from, flag_of, mask_of};
 
 // The mask that has bit 0 for a, bit 1 for b, bit 2 for c and bit 3 for d.
 pub fn mask(a: bool, b: bool, c: bool, d: bool) -> u8
@@ -12,29 +11,10 @@ pub fn mask(a: bool, b: bool, c: bool, d: bool) -> u8
 }
 
 // The first slot of a mask that asks, from the start on and going round: the mask is turned so that the start is its bit 0.
-fn first_from(asking: u8, start: u8) -> u8
+pub(crate) fn first_from(asking: u8, start: u8) -> u8
     requires { (0 < asking) × ((asking < 16) × (start < 4)) }
     ensures { first_from 4 (asks_in asking) start ≡ Some result }
 {
     let turned = (asking >> start | asking << (4 - start)) & 15;
     (turned.trailing_zeros() as u8 + start) % 4
-}
-
-// Which slot is looked at first: at slot 0, or rotating after the slot last chosen.
-fn start_of(rotating: bool, last: u8) -> u8
-    ensures value { result ≡ start_of rotating last }
-    ensures below { result < 4 }
-{
-    if rotating { (last % 4 + 1) % 4 } else { 0 }
-}
-
-// The slot that is chosen: the first that asks from the start on, going round.
-pub fn choose(asking: u8, rotating: bool, last: u8) -> Option<u8>
-    ensures { Chosen (asks_in asking) rotating last result }
-{
-    let asking = asking & 15;
-    if asking == 0 {
-        return None;
-    }
-    Some(first_from(asking, start_of(rotating, last)))
 }

@@ -13,9 +13,7 @@ fn serve(first: &mut Side, second: &mut Side) -> Option<u8>
 {
     let choice = winner(*first, *second)?;
     second.last = choice.second;
-    if let Some(slot) = choice.first {
-        first.last = slot;
-    }
+    first.last = choice.first.unwrap_or(first.last);
     Some(choice.channel)
 }
 
@@ -31,8 +29,8 @@ pub fn worked_order() -> [Option<u8>; 17]
     };
     let mut second = first;
     let mut order = [None; 17];
-    for i in 0..17 {
-        order[i] = serve(&mut first, &mut second);
+    for channel in &mut order {
+        *channel = serve(&mut first, &mut second);
     }
     order
 }

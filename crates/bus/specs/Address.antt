@@ -38,6 +38,13 @@ turned m true x d = (x + (m - 1) * d) % m
 abbrev pub with_address : Place → ℕ → Place
 with_address p a = record { address = a; low = p.low; high = p.high }
 
+-- plain, the address register moves by k modulo 2^16; extended, the bus address moves by k units modulo 2^32
+abbrev pub place_along : Course → Place → ℕ → Place
+place_along c p k =
+    cond c.extended
+    (place_at c.addressing (turned 4294967296 c.decrement (address_of c.addressing p) (unit_of c.addressing * k)) p.low)
+    (with_address p (turned 65536 c.decrement p.address k))
+
 -- plain, the address register moves by one modulo 2^16; extended, the bus address moves by the unit modulo 2^32
 abbrev pub moved_place : Course → Place → Place
 moved_place c p =

@@ -1,6 +1,6 @@
 // A channel's place on the bus: its address register and pages, and how they move.
 ghost use Rattle.std.specs.Prelude.{◌≡◌, ℕ, suc, ◌%◌, ◌∷◌};
-ghost use Rattle.bus.specs.Address.{address_of, moved_place, place_at, unit_of};
+ghost use Rattle.bus.specs.Address.{address_of, moved_place, place_along, place_at, unit_of};
 ghost use Rattle.bus.specs.Plan.{plan, planned};
 
 // The address register, the low page and the high page.
@@ -75,48 +75,32 @@ impl Place {
         }
     }
 
+    // The registers after k units have passed. Down by k is up by what k lacks to 2^32.
+    fn along(self, course: Course, k: u32) -> Place
+        ensures { result ≡ place_along course self k }
+    {
+        let way = if course.decrement { k.wrapping_neg() } else { k };
+        if course.extended {
+            let here = self.bus_address(course.addressing);
+            let next = here.wrapping_add(course.addressing.unit().wrapping_mul(way));
+            return Place::at(next, course.addressing, self.low);
+        }
+        let address = self.address.wrapping_add((way & 0xffff) as u16);
+        Place { address, ..self }
+    }
+
     // The registers after one unit has passed.
     pub fn moved(self, course: Course) -> Place
         ensures value { result ≡ moved_place course self }
         ensures rest { (n : ℕ) → plan course self (suc n) ≡ address_of course.addressing self ∷ plan course result n }
     {
-        if course.extended {
-            let here = self.bus_address(course.addressing);
-            let unit = course.addressing.unit();
-            let next = if course.decrement {
-                here.wrapping_sub(unit)
-            } else {
-                here.wrapping_add(unit)
-            };
-            return Place::at(next, course.addressing, self.low);
-        }
-        let address = if course.decrement {
-            self.address.wrapping_sub(1)
-        } else {
-            self.address.wrapping_add(1)
-        };
-        Place { address, ..self }
+        self.along(course, 1)
     }
 
     // The address that the k-th unit from here passes, counted from 0.
     pub fn nth(self, course: Course, k: u32) -> u32
         ensures { result ≡ planned course self k }
     {
-        if course.extended {
-            let here = self.bus_address(course.addressing);
-            let way = course.addressing.unit().wrapping_mul(k);
-            return if course.decrement {
-                here.wrapping_sub(way)
-            } else {
-                here.wrapping_add(way)
-            };
-        }
-        let way = (k % 0x10000) as u16;
-        let address = if course.decrement {
-            self.address.wrapping_sub(way)
-        } else {
-            self.address.wrapping_add(way)
-        };
-        Place { address, ..self }.bus_address(course.addressing)
+        self.along(course, k).bus_address(course.addressing)
     }
 }

@@ -1,22 +1,46 @@
--- Addresses that are all writable.
-use Rattle.std.proofs.Common.{◌≡◌, ℕ, zero, suc, ◌+◌, ◌<◌, Ok, Err, Result, sym, refl, ap, ◌∙◌, ⊎_elim, add-one, arith}
+-- Eight addresses: the least of their kinds, and bytes written there in turn.
+use Rattle.std.proofs.Common.{◌≡◌, ℕ, zero, suc, ◌+◌, ◌-◌, ◌<◌, List, [], ◌∷◌, ◌++◌, length, get_or, drop, slice_index, Ok, Err, Result, sym, refl, ap, ◌∙◌, ⊎_elim, arith}
 use Rattle.std.proofs.lemmas.Bool.{cases_eq}
+use Rattle.std.proofs.lemmas.List.{drop_more}
+use Rattle.std.proofs.lemmas.List.Sums.{fold_push}
 use Rattle.std.proofs.lemmas.Bool.Decides.{nat_tests}
 use Rattle.memory.specs.declared.kinds.Kind.{Kind}
 use Rattle.memory.specs.declared.kinds.Kind.TheVariants.{Absent, ReadOnly, Writable}
 use Rattle.memory.specs.declared.kinds.MemoryFault.{MemoryFault}
 use Rattle.memory.specs.Bytes.{write_of}
-use Rattle.memory.specs.Puts.{reached, lesser, least_from}
+use Rattle.memory.specs.Puts.{reached, lesser, least_from, spread}
+use Rattle.memory.specs.Stored.{stored}
+use Rattle.memory.proofs.Views.{stored_by}
+use Rattle.std.specs.Ordering.{ord_min}
+use Rattle.std.specs.List.{fold, range_with_len}
+use Rattle.memory.specs.contracts.kinds.KindOrd.TheImpl as order
 
--- no address
-pub least_none : (k : ℕ → Kind) (a : ℕ) → Writable ≡ least_from k a 0
-unfolding least_from
-least_none k a = refl
+-- of two kinds the lesser is the first in their order
+pub first_is_lesser : (x y : Kind) → ord_min order.cmp-value.it x y ≡ lesser x y
+first_is_lesser Absent Absent = refl
+first_is_lesser Absent ReadOnly = refl
+first_is_lesser Absent Writable = refl
+first_is_lesser ReadOnly Absent = refl
+first_is_lesser ReadOnly ReadOnly = refl
+first_is_lesser ReadOnly Writable = refl
+first_is_lesser Writable Absent = refl
+first_is_lesser Writable ReadOnly = refl
+first_is_lesser Writable Writable = refl
 
--- one more address
-pub least_more : (k : ℕ → Kind) (a n : ℕ) → least_from k a (n + 1) ≡ lesser (least_from k a n) (reached k (a + n))
+-- the least of the kinds at some places past an address
+abbrev pub least_of : (ℕ → Kind) → ℕ → List ℕ → Kind
+least_of k a offsets = fold (λ least offset. lesser least (reached k (a + offset))) Writable offsets
+
+-- one place more
+pub least_of_more : (k : ℕ → Kind) (a : ℕ) (offsets : List ℕ) (least : Kind) (offset : ℕ) (next : Kind) → least ≡ least_of k a offsets
+    → next ≡ ord_min order.cmp-value.it least (reached k (a + offset)) → next ≡ least_of k a (offsets ++ offset ∷ [])
+least_of_more k a offsets least offset next e f =
+    rw fold_push (f ∙ first_is_lesser least (reached k (a + offset)) ∙ ap (λ x. lesser x (reached k (a + offset))) e)
+
+-- the eight places
+pub least_of_eight : (k : ℕ → Kind) (a : ℕ) → least_of k a (range_with_len 0 8) ≡ least_from k a 8
 unfolding least_from
-least_more k a n = rw add-one refl
+least_of_eight k a = refl
 
 both_writable : (x y : Kind) → lesser x y ≡ Writable → (x ≡ Writable) × (y ≡ Writable)
 both_writable Absent y e = let z : ◌≡◌ {A = ℕ} 0 1 = cc in absurd (omega arith)
@@ -45,3 +69,15 @@ not_refused {k} {m} {x} {r} {e} same h answer was =
     let ok : r ≡ Ok tt = answer ∙ ap write_of there in
     let z : ◌≡◌ {A = ℕ} 0 1 = cc in
     omega arith
+
+-- the first that is left of a list, and what is left after it
+pub drop_next : (xs ys : List ℕ) (n x : ℕ) → drop n xs ≡ x ∷ ys → n < length xs → (slice_index xs n ≡ x) × (ys ≡ drop (n + 1) xs)
+drop_next xs ys n x e h =
+    let m : get_or xs n 0 ∷ drop (n + 1) xs ≡ x ∷ ys = sym (drop_more xs n 0 h) ∙ e in
+    (grind (arith, nat_tests, m), cc)
+
+-- one byte more
+pub spread_more : (f : ℕ → ℕ) (a n b : ℕ) (bs : List ℕ) → slice_index bs n ≡ b → spread f a (n + 1) bs ≡ stored (spread f a n bs) (a + n) b
+spread_more f a n b bs e =
+    let z : a + n - a ≡ n = omega arith in
+    stored_by (spread f a n bs) (spread f a (n + 1) bs) (a + n) b (grind (arith, nat_tests)) (λ x ne. grind (arith, nat_tests))

@@ -3,19 +3,19 @@ use Rattle.std.specs.Prelude.{ℕ, Bool, true, false, cond, Ok, Err, Result}
 use Rattle.memory.specs.declared.kinds.Kind.{Kind}
 use Rattle.memory.specs.declared.kinds.Kind.TheVariants.{Absent, ReadOnly, Writable}
 use Rattle.memory.specs.declared.kinds.MemoryFault.{MemoryFault}
-use Rattle.memory.specs.Faults.{memory_refusal}
+use Rattle.memory.specs.declared.kinds.MemoryFault.TheVariants as fault
 use Rattle.memory.specs.Stored.{stored}
 
--- a read of an address of that kind, whose byte is b, answers b, or 21 if it is absent
+-- a read of an address of that kind, whose byte is b, answers b, or is refused if it is absent
 abbrev pub read_of : Kind → ℕ → Result ℕ MemoryFault
-read_of Absent b = Err (memory_refusal 21)
+read_of Absent b = Err fault.Absent
 read_of ReadOnly b = Ok b
 read_of Writable b = Ok b
 
--- a write to an address of that kind is accepted if it is writable, else it gets 21 or 22
+-- a write to an address of that kind is accepted if it is writable, else refused, as absent or as read-only
 abbrev pub write_of : Kind → Result (Unit {0}) MemoryFault
-write_of Absent = Err (memory_refusal 21)
-write_of ReadOnly = Err (memory_refusal 22)
+write_of Absent = Err fault.Absent
+write_of ReadOnly = Err fault.ReadOnly
 write_of Writable = Ok tt
 
 -- nothing is there

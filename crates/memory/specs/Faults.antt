@@ -1,5 +1,5 @@
 -- The numbers of a memory's refusals.
-use Rattle.std.specs.Prelude.{ℕ, cond, ◌==◌}
+use Rattle.std.specs.Prelude.{ℕ}
 use Rattle.memory.specs.declared.kinds.MemoryFault.{MemoryFault}
 use Rattle.memory.specs.declared.kinds.MemoryFault.TheVariants.{Absent, ReadOnly}
 
@@ -7,7 +7,3 @@ use Rattle.memory.specs.declared.kinds.MemoryFault.TheVariants.{Absent, ReadOnly
 abbrev pub memory_number : MemoryFault → ℕ
 memory_number Absent = 21
 memory_number ReadOnly = 22
-
--- the refusal with a number
-abbrev pub memory_refusal : ℕ → MemoryFault
-memory_refusal n = cond (n == memory_number Absent) Absent ReadOnly

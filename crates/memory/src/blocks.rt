@@ -1,9 +1,11 @@
 // A block of lent bytes as a memory.
-ghost use Rattle.std.specs.Prelude.{◌≡◌, true, false, length, MatchResult};
+ghost use Rattle.std.specs.Prelude.{◌≡◌, true, false, length, is_ok, IfErr, IfOk, MatchResult};
 ghost use Rattle.memory.specs.Blocks.{block_number, fits_at, kind_of_all, kind_from, byte_from, block_kind, block_byte, block_fixed};
 
 use crate::kinds::{Kind, MemoryFault};
 use crate::layer::Memory;
+use std::error::Error;
+use std::fmt;
 
 /// The most bytes that a block may have.
 pub const LONGEST: usize = 16_777_216;
@@ -19,7 +21,7 @@ pub struct Block<'a> {
 /// Why a block is not made.
 #[derive(Clone, Copy, PartialEq, Eq, Debug)]
 pub enum BlockFault {
-    DoesNotFit,
+    DoesNotFit = 71,
 }
 
 impl BlockFault {
@@ -27,11 +29,19 @@ impl BlockFault {
     pub fn number(self) -> u8
         ensures { result ≡ block_number self }
     {
-        match self {
-            BlockFault::DoesNotFit => 71,
-        }
+        self as u8
     }
 }
+
+impl fmt::Display for BlockFault {
+    fn fmt<W: fmt::Write>(&self, f: &mut fmt::Formatter<W>) -> fmt::Result {
+        f.write_str(match self {
+            BlockFault::DoesNotFit => "the block is too long, or goes past FFFFFFFFh",
+        })
+    }
+}
+
+impl Error for BlockFault {}
 
 impl<'a> Block<'a> {
     /// Refused where so many bytes do not fit from the base on.
@@ -47,7 +57,10 @@ impl<'a> Block<'a> {
 
     /// A block, all writable or all read-only, whose first byte stands at the base; refused where it does not fit.
     pub fn new(bytes: &'a mut [u8], base: u32, writable: bool) -> Result<Block<'a>, BlockFault>
-        ensures { MatchResult result (λ b. (fits_at base (length bytes.old) ≡ true) × (block_kind b ≡ kind_from (kind_of_all true writable) base (length bytes.old)) × (block_byte b ≡ byte_from base bytes.old)) (λ e. (block_number e ≡ 71) × (fits_at base (length bytes.old) ≡ false)) }
+        ensures fits { is_ok result ≡ fits_at base (length bytes.old) }
+        ensures kinds { IfOk result (λ b. block_kind b ≡ kind_from (kind_of_all true writable) base (length bytes.old)) }
+        ensures bytes { IfOk result (λ b. block_byte b ≡ byte_from base bytes.old) }
+        ensures number { IfErr result (λ e. block_number e ≡ 71) }
     {
         Block::fits(bytes.len(), base)?;
         Ok(Block::over(bytes, base, writable))
@@ -85,10 +98,10 @@ impl Memory for Block<'_> {
     ghost fixed = { block_fixed };
 
     fn kind(&self, address: u32) -> Kind {
-        if address < self.base || (address - self.base) as usize >= self.bytes.len() {
-            return Kind::Absent;
+        match address.checked_sub(self.base) {
+            Some(offset) if (offset as usize) < self.bytes.len() => self.kind,
+            _ => Kind::Absent,
         }
-        self.kind
     }
 
     fn read(&self, address: u32) -> Result<u8, MemoryFault> {
@@ -99,13 +112,8 @@ impl Memory for Block<'_> {
     }
 
     fn write(&mut self, address: u32, byte: u8) -> Result<(), MemoryFault> {
-        match self.kind(address) {
-            Kind::Absent => Err(MemoryFault::Absent),
-            Kind::ReadOnly => Err(MemoryFault::ReadOnly),
-            Kind::Writable => {
-                self.bytes[(address - self.base) as usize] = byte;
-                Ok(())
-            }
-        }
+        self.kind(address).accepts_write()?;
+        self.bytes[(address - self.base) as usize] = byte;
+        Ok(())
     }
 }

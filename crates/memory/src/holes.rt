@@ -32,7 +32,7 @@ impl<N> Hole<N> {
     fn covers(&self, address: u32) -> bool
         ensures { result ≡ (nat_le self.now.bottom address && nat_le address self.now.top) }
     {
-        self.bottom <= address && address <= self.top
+        (self.bottom..=self.top).contains(&address)
     }
 }
 

@@ -1,9 +1,13 @@
 // The kinds of an address, and how a memory refuses.
 ghost use Rattle.std.specs.Prelude.{◌≡◌};
+ghost use Rattle.memory.specs.Bytes.{write_of};
 ghost use Rattle.memory.specs.Faults.{memory_number};
 
-/// What stands at an address. It never changes.
-#[derive(Clone, Copy, PartialEq, Eq, Debug)]
+use std::error::Error;
+use std::fmt;
+
+/// What stands at an address, the least first. It never changes.
+#[derive(Clone, Copy, PartialEq, Eq, PartialOrd, Ord, Debug)]
 pub enum Kind {
     Absent,
     ReadOnly,
@@ -13,8 +17,21 @@ pub enum Kind {
 /// Why a memory refuses to read or write a byte.
 #[derive(Clone, Copy, PartialEq, Eq, Debug)]
 pub enum MemoryFault {
-    Absent,
-    ReadOnly,
+    Absent = 21,
+    ReadOnly = 22,
+}
+
+impl Kind {
+    /// Refused unless a write is accepted there.
+    pub(crate) fn accepts_write(self) -> Result<(), MemoryFault>
+        ensures { result ≡ write_of self }
+    {
+        match self {
+            Kind::Absent => Err(MemoryFault::Absent),
+            Kind::ReadOnly => Err(MemoryFault::ReadOnly),
+            Kind::Writable => Ok(()),
+        }
+    }
 }
 
 impl MemoryFault {
@@ -22,9 +39,17 @@ impl MemoryFault {
     pub fn number(self) -> u8
         ensures { result ≡ memory_number self }
     {
-        match self {
-            MemoryFault::Absent => 21,
-            MemoryFault::ReadOnly => 22,
-        }
+        self as u8
     }
 }
+
+impl fmt::Display for MemoryFault {
+    fn fmt<W: fmt::Write>(&self, f: &mut fmt::Formatter<W>) -> fmt::Result {
+        f.write_str(match self {
+            MemoryFault::Absent => "no memory there",
+            MemoryFault::ReadOnly => "the memory there is read-only",
+        })
+    }
+}
+
+impl Error for MemoryFault {}

@@ -1,10 +1,14 @@
--- One more kind is looked at.
-use Rattle.std.proofs.Common.{rules}
-use Rattle.memory.proofs.Eight.{least_none, least_more}
+-- The least of the eight kinds.
+use Rattle.std.proofs.Common.{rules, ◌≡◌, ◌∙◌, refl}
+use Rattle.std.specs.List.{range_with_len}
+use Rattle.std.proofs.lemmas.Fn.{fold_over}
+use Rattle.std.proofs.iter.Yields.{nat_range_steps, Range-gives}
+use Rattle.memory.proofs.Eight.{least_of, least_of_more, least_of_eight}
 use Rattle.memory.proofs.puts.least_kind.Goals as goal
 
-pub loop-i-init : goal.loop-i-init
-loop-i-init g c = search (rules, least_none)
-
-pub loop-i-preserved : goal.loop-i-preserved
-loop-i-preserved g c = search (rules, least_more)
+pub returns : goal.returns
+returns g c =
+    let k = g.N.Memory.kind_at c.args.memory.now in
+    fold_over nat_range_steps (λ x. x) _ (λ offsets least. least ≡ least_of k c.args.address offsets) _
+    (λ offsets least offset next f' is called. let more = least_of_more k c.args.address offsets least offset next is in (search (rules, more), search rules)) _ (range_with_len 0 8) _ _ (Range-gives (record { start = 0; end = 8 })) refl c.fold.ensures.ran
+    ∙ least_of_eight k c.args.address
