@@ -1,14 +1,9 @@
--- All of the cells are in use.
-use Rattle.std.proofs.Common.{length, refl, arith}
-use Rattle.tape.specs.Tapes.{contents, room}
-use Rattle.tape.proofs.Held.{held_all, none_left}
+-- The ring of all cells, from the first on.
+use Rattle.std.proofs.Common.{rules}
+use Rattle.std.proofs.lemmas.List.{take_at}
+use Rattle.tape.specs.Tapes.{contents}
 use Rattle.tape.proofs.lines.Tape.full.Goals as goal
 
-pub returns : goal.returns
-unfolding contents room
-returns g c = record {
-  contents = held_all c.args.cells.now;
-  room = none_left 0 (length c.args.cells.now) c.args.cells.now (omega arith);
-  cells = refl;
-  lender = refl;
-}
+pub returns-clause-contents : goal.returns-clause-contents
+unfolding contents
+returns-clause-contents g c = search (rules, take_at)
