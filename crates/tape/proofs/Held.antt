@@ -1,6 +1,6 @@
 -- What a tape holds, and what a push and a pop make of it.
-use Rattle.std.proofs.Common.{◌≡◌, ℕ, ◌+◌, ◌-◌, ◌<◌, List, [], ◌∷◌, ◌++◌, length, get_or, set, Ok, refl, sym, ap, arith}
-use Rattle.std.proofs.lemmas.List.{length-set}
+use Rattle.std.proofs.Common.{◌≡◌, ℕ, ◌+◌, ◌-◌, ◌<◌, List, [], ◌∷◌, ◌++◌, length, get_or, set, Ok, refl, sym, ap, ap₂, ◌∙◌, arith}
+use Rattle.std.proofs.lemmas.List.{length-set, take_at}
 use Rattle.tape.specs.Lines.{first_or}
 use Rattle.tape.specs.Rings.{ring}
 use Rattle.tape.specs.Tapes.{contents, cells_of, place_of}
@@ -23,6 +23,11 @@ module _ {X : Type 0} (t : Tape X) where
   unfolding contents
   contents_none h = ap (λ n. ring t.start n (cells_of t)) h
 
+  -- a tape that counts all cells, from the first on, holds what stands in them
+  pub contents_all : t.start ≡ 0 → t.count ≡ length (cells_of t) → contents t ≡ cells_of t
+  unfolding contents
+  contents_all s c = ap₂ (λ i n. ring i n (cells_of t)) s c ∙ take_at _ _ _ refl
+
   -- x in the place after the last comes last
   pub contents_pushed : (p : ℕ) (x : X) → t.count < length (cells_of t) → p ≡ place_of t t.count → ring t.start (t.count + 1) (set (cells_of t) p x) ≡ contents t ++ x ∷ []
   unfolding contents place_of
@@ -34,4 +39,4 @@ module _ {X : Type 0} (t : Tape X) where
   contents_popped p x b h e hx = pop_ring t.start t.count (cells_of t) b t.start_within t.count_within p e x hx h
 
 -- what the goals of a tape's functions need of these
-pub ruleset tape_steps = (some_first, length_contents, contents_none, length-set)
+pub ruleset tape_steps = (some_first, length_contents, contents_none, contents_all, length-set)
