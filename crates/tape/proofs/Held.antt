@@ -1,74 +1,42 @@
 -- What a tape holds, and what a push and a pop make of it.
-use Rattle.std.proofs.Common.{◌≡◌, ℕ, ◌+◌, ◌-◌, ◌<◌, ◌≤◌, min, cond, eqb, ltb, List, [], ◌∷◌, ◌++◌, length, get_or, set, sym, refl, ap, ◌∙◌, arith}
+use Rattle.std.proofs.Common.{◌≡◌, ℕ, ◌+◌, ◌-◌, ◌<◌, List, [], ◌∷◌, ◌++◌, length, get_or, set, Ok, refl, sym, ap, ap₂, ◌∙◌, arith}
 use Rattle.std.proofs.lemmas.List.{length-set, take_at}
-use Rattle.std.proofs.lemmas.Bool.{lt-ltb, le-ltb, cond-true, cond-false}
-use Rattle.std.proofs.lemmas.Bool.Decides.{nat_tests}
-use Rattle.tape.specs.Rings.{wrap, ring}
-use Rattle.tape.proofs.Rings.{length-ring, push_ring, pop_ring, wrap_below}
+use Rattle.tape.specs.Lines.{first_or}
+use Rattle.tape.specs.Rings.{ring}
+use Rattle.tape.specs.Tapes.{contents, cells_of, place_of}
+use Rattle.tape.specs.declared.lines.Tape.{Tape}
+use Rattle.tape.proofs.Rings.{length-ring, push_ring, pop_ring}
 
--- the contents of a tape and its free cells, by its parts
-abbrev held : {X : Type 0} → ℕ → ℕ → List X → List X
-held s c cells = ring (min s (length cells)) (min c (length cells)) cells
+-- a line with a first holds one at least
+pub some_first : {X E : Type 0} (xs : List X) (e : E) (x : X) → first_or e xs ≡ Ok x → 0 < length xs
+some_first [] e x h = grind arith
+some_first (y ∷ ys) e x h = omega arith
 
-abbrev left : {X : Type 0} → ℕ → ℕ → List X → ℕ
-left s c cells = length cells - length (held s c cells)
+module _ {X : Type 0} (t : Tape X) where
+  -- a tape holds as much as it counts
+  pub length_contents : length (contents t) ≡ t.count
+  unfolding contents
+  length_contents = length-ring t.start t.count (cells_of t) t.start_within t.count_within
 
-module _ {X : Type 0} (s c : ℕ) (cells : List X) where
-  pub length_held : length (held s c cells) ≡ min c (length cells)
-  length_held = length-ring (min s (length cells)) (min c (length cells)) cells (omega arith) (omega arith)
+  -- a tape that counts nothing holds nothing
+  pub contents_none : t.count ≡ 0 → contents t ≡ []
+  unfolding contents
+  contents_none h = ap (λ n. ring t.start n (cells_of t)) h
 
-  -- a tape is full if it holds as much as it has cells
-  pub full_held : eqb (length (held s c cells)) (length cells) ≡ eqb (left s c cells) 0
-  full_held = let e = length_held in grind (arith, nat_tests)
+  -- a tape that counts all cells, from the first on, holds what stands in them
+  pub contents_all : t.start ≡ 0 → t.count ≡ length (cells_of t) → contents t ≡ cells_of t
+  unfolding contents
+  contents_all s c = ap₂ (λ i n. ring i n (cells_of t)) s c ∙ take_at _ _ _ refl
 
-  pub none_left : length cells ≤ c → left s c cells ≡ 0
-  none_left h = let e = length_held in omega arith
+  -- x in the place after the last comes last
+  pub contents_pushed : (p : ℕ) (x : X) → t.count < length (cells_of t) → p ≡ place_of t t.count → ring t.start (t.count + 1) (set (cells_of t) p x) ≡ contents t ++ x ∷ []
+  unfolding contents place_of
+  contents_pushed p x h e = push_ring t.start t.count (cells_of t) x t.start_within p h e
 
-  -- if no cell is free, of two ways the one that changes nothing
-  pub none_free : {Y : Type 0} (x y : Y) → length cells ≤ c → y ≡ cond (ltb 0 (left s c cells)) x y
-  none_free x y h = let e = none_left h in sym (cond-false _ x y (le-ltb _ _ (omega arith)))
+  -- x in the first place, where b comes in its stead
+  pub contents_popped : (p : ℕ) (x b : X) → 0 < t.count → p ≡ place_of t 0 → x ≡ get_or (cells_of t) p x → contents t ≡ x ∷ ring (p + 1) (t.count - 1) (set (cells_of t) p b)
+  unfolding contents place_of
+  contents_popped p x b h e hx = pop_ring t.start t.count (cells_of t) b t.start_within t.count_within p e x hx h
 
--- a tape over all of its cells
-pub held_all : {X : Type 0} (cells : List X) → held 0 (length cells) cells ≡ cells
-held_all cells =
-    let e : min (length cells) (length cells) ≡ length cells = omega arith in
-    let z : min 0 (length cells) ≡ 0 = omega arith in
-    rw (e, z) (take_at cells cells (length cells) refl)
-
--- a push of x, where a cell is free
-module _ {X : Type 0} (s c : ℕ) (cells : List X) (x : X) (p : ℕ) (h : c < length cells) (e : p ≡ wrap (min s (length cells) + c) (length cells)) where
-  -- of two ways the one that adds
-  pub push_free : {Y : Type 0} (y z : Y) → y ≡ cond (ltb 0 (left s c cells)) y z
-  push_free y z = let l = length_held s c cells in sym (cond-true _ y z (lt-ltb _ _ (omega arith)))
-
-  pub push_place : p ≡ wrap (min s (length cells) + length (held s c cells)) (length cells)
-  push_place = let l : length (held s c cells) ≡ c = length_held s c cells ∙ omega arith in rw l e
-
-  pub push_held : held s (c + 1) (set cells p x) ≡ held s c cells ++ x ∷ []
-  push_held =
-      let more : min (c + 1) (length (set cells p x)) ≡ c + 1 = simp length-set (omega arith) in
-      let start : min s (length (set cells p x)) ≡ min s (length cells) = simp length-set in
-      let fewer : min c (length cells) ≡ c = omega arith in
-      let q = push_ring (min s (length cells)) c cells x (omega arith) p h e in
-      cc
-
-  pub push_left : left s (c + 1) (set cells p x) ≡ left s c cells - 1
-  push_left =
-      let old = length_held s c cells in
-      let new = length_held s (c + 1) (set cells p x) in
-      let size = length-set cells p x in
-      omega arith
-
--- a pop of x, which a blank b replaces
-module _ {X : Type 0} (s c : ℕ) (cells : List X) (b x : X) (p m : ℕ) (h : 0 < m) (em : m ≡ length (held s c cells)) (e : p ≡ wrap (min s (length cells) + 0) (length cells)) (hx : x ≡ get_or cells p x) where
-  pub pop_held : held s c cells ≡ x ∷ held (p + 1) (m - 1) (set cells p b)
-  pop_held =
-      let l : m ≡ min c (length cells) = em ∙ length_held s c cells in
-      let pb : p < length cells = rw e (wrap_below (min s (length cells)) 0 (length cells) (omega arith) (omega arith)) in
-      let fewer : min (m - 1) (length (set cells p b)) ≡ m - 1 = simp length-set (omega arith) in
-      let start : min (p + 1) (length (set cells p b)) ≡ p + 1 = simp length-set (omega arith) in
-      let q = pop_ring (min s (length cells)) m cells b (omega arith) (omega arith) p e x hx h in
-      cc
-
-  pub pop_cells : (d : X) → b ≡ d → set cells p b ≡ cond (ltb 0 (length (held s c cells))) (set cells (wrap (min s (length cells) + 0) (length cells)) d) cells
-  pop_cells d eb = ap (set cells p) eb ∙ ap (λ i. set cells i d) e ∙ sym (cond-true _ _ cells (lt-ltb _ _ (omega arith)))
+-- what the goals of a tape's functions need of these
+pub ruleset tape_steps = (some_first, length_contents, contents_none, contents_all, length-set)

@@ -1,5 +1,5 @@
 -- What a tape holds, and what its functions answer and leave.
-use Rattle.std.specs.Prelude.{ℕ, ◌+◌, ◌-◌, min, cond, List, [], ◌∷◌, ◌++◌, length, Ok, Err, Result, ◌==◌, nat_lt, slice_set}
+use Rattle.std.specs.Prelude.{ℕ, ◌+◌, ◌-◌, cond, List, [], ◌∷◌, ◌++◌, length, codes, Ok, Err, Result, ◌==◌, nat_lt, slice_set}
 use Rattle.tape.specs.declared.lines.Tape.{Tape}
 use Rattle.tape.specs.declared.lines.TapeFault.{TapeFault}
 use Rattle.tape.specs.declared.lines.TapeFault.TheVariants.{Full, Empty}
@@ -10,6 +10,11 @@ abbrev pub tape_number : TapeFault → ℕ
 tape_number Full = 61
 tape_number Empty = 62
 
+-- a refusal in words
+abbrev pub tape_words : TapeFault → List ℕ
+tape_words Full = codes "the tape is full"
+tape_words Empty = codes "the tape is empty"
+
 -- the refusal with a number
 abbrev pub tape_refusal : ℕ → TapeFault
 tape_refusal n = cond (n == tape_number Full) Full Empty
@@ -18,13 +23,9 @@ tape_refusal n = cond (n == tape_number Full) Full Empty
 abbrev pub cells_of : {X : Type 0} → Tape X → List X
 cells_of t = t.cells.now
 
--- where the tape starts; a number that is too large counts as the most that fits
-abbrev pub start_of : {X : Type 0} → Tape X → ℕ
-start_of t = min t.start (length (cells_of t))
-
 -- what the tape holds, the first in first
 unfoldable pub contents : {X : Type 0} → Tape X → List X
-contents t = ring (start_of t) (min t.count (length (cells_of t))) (cells_of t)
+contents t = ring t.start t.count (cells_of t)
 
 -- the cells that hold nothing
 unfoldable pub room : {X : Type 0} → Tape X → ℕ
@@ -32,7 +33,7 @@ room t = length (cells_of t) - length (contents t)
 
 -- the cell of the element that so many come before
 unfoldable pub place_of : {X : Type 0} → Tape X → ℕ → ℕ
-place_of t k = wrap (start_of t + k) (length (cells_of t))
+place_of t k = wrap (t.start + k) (length (cells_of t))
 
 -- a push is accepted if a cell is free, else it gets 61
 abbrev pub push_of : ℕ → Result (Unit {0}) TapeFault

@@ -3,7 +3,6 @@
 
 pub mod blanks;
 pub mod lines;
-mod places;
 
 pub use blanks::Blank;
 pub use lines::{Tape, TapeFault};

@@ -1,39 +1,60 @@
 // A first-in, first-out line over lent cells.
-ghost use Rattle.std.specs.Prelude.{◌≡◌, ◌-◌, ◌<◌, ◌≤◌, [], length, ◌==◌, slice_index_or};
+ghost use Rattle.std.specs.Prelude.{◌≡◌, ◌-◌, ◌<◌, ◌≤◌, [], length, ◌==◌};
 ghost use Rattle.tape.specs.Lines.{first_or, rest_of};
-ghost use Rattle.tape.specs.Tapes.{tape_number, tape_refusal, cells_of, contents, room, push_of, pushed, filled, freed};
 
 use crate::blanks::Blank;
-use crate::places::{copied, place};
+use std::error::Error;
+use std::fmt;
 
 /// So many of the lent cells, from a start on and going round, are in use.
+// A ring over lent cells, not a `VecDeque`: this project takes no memory from a heap.
 #[derive(Drop)]
 pub struct Tape<'a, T> {
     cells: &'a mut [T],
     start: usize,
     count: usize,
+    ghost start_within: { start ≤ length cells.now },
+    ghost count_within: { count ≤ length cells.now },
 }
 
 /// Why a tape refuses.
 #[derive(Clone, Copy, PartialEq, Eq, Debug)]
 pub enum TapeFault {
-    Full,
-    Empty,
+    Full = 61,
+    Empty = 62,
 }
 
 impl TapeFault {
+    ghost use Rattle.tape.specs.Tapes.{tape_number};
+
     /// The refusal's number.
     pub fn number(self) -> u8
         ensures { result ≡ tape_number self }
     {
-        match self {
-            TapeFault::Full => 61,
-            TapeFault::Empty => 62,
-        }
+        self as u8
     }
 }
 
+impl fmt::Display for TapeFault {
+    ghost use Rattle.std.specs.Prelude.{Some};
+    ghost use Rattle.tape.specs.Tapes.{tape_words};
+
+    ghost output = { λ fault. Some (tape_words fault) };
+
+    fn fmt<W: fmt::Write>(&self, f: &mut fmt::Formatter<W>) -> fmt::Result {
+        f.write_str(match self {
+            TapeFault::Full => "the tape is full",
+            TapeFault::Empty => "the tape is empty",
+        })
+    }
+}
+
+impl Error for TapeFault {}
+
+#[tactic(auto, using(crate::proofs::Held::tape_steps), unfolding(crate::specs::Tapes::room, crate::specs::Tapes::place_of))]
 impl<'a, T: Blank> Tape<'a, T> {
+    ghost use Rattle.tape.specs.Tapes.{tape_refusal, cells_of, contents, place_of, room, push_of, pushed, filled, freed};
+
     /// A tape that holds nothing yet. The cells stay as lent.
     pub fn empty(cells: &'a mut [T]) -> Tape<'a, T>
         ensures contents { contents result ≡ [] }
@@ -68,7 +89,7 @@ impl<'a, T: Blank> Tape<'a, T> {
         ensures count { result ≡ length (contents self.now) }
         ensures within { result ≤ length (cells_of self.now) }
     {
-        self.count.min(self.cells.len())
+        self.count // at most as many as there are cells
     }
 
     /// Whether no cell is free.
@@ -78,23 +99,29 @@ impl<'a, T: Blank> Tape<'a, T> {
         self.len() == self.cells.len()
     }
 
+    /// The place of the element that so many come before, going round.
+    fn place(&self, before: usize) -> usize
+        requires { before < length (cells_of self.now) }
+        ensures value { result ≡ place_of self.now before }
+        ensures bound { result < length (cells_of self.now) }
+    {
+        // Not `(self.start + before) % size`: where a `T` takes no memory, that sum may be too large.
+        let to_end = self.cells.len() - self.start;
+        if before < to_end {
+            self.start + before
+        } else {
+            before - to_end
+        }
+    }
+
     /// The first element; refused if there is none.
     pub fn peek(&self) -> Result<T, TapeFault>
         ensures { result ≡ first_or (tape_refusal 62) (contents self.now) }
     {
-        if self.len() == 0 {
+        if self.count == 0 {
             return Err(TapeFault::Empty);
         }
-        let size = self.cells.len();
-        Ok(self.at(place(self.start.min(size), 0, size)))
-    }
-
-    /// A copy of one cell.
-    fn at(&self, place: usize) -> T
-        requires { place < length (cells_of self.now) }
-        ensures { result ≡ slice_index_or (cells_of self.now) place result }
-    {
-        copied(self.cells, place)
+        Ok(self.cells[self.place(0)])
     }
 
     /// Adds an element at the end; refused if no cell is free.
@@ -106,12 +133,12 @@ impl<'a, T: Blank> Tape<'a, T> {
         ensures room { room self.new ≡ room self.old - 1 }
         ensures lender { self.new.cells.ghost_name ≡ self.old.cells.ghost_name }
     {
-        let size = self.cells.len();
-        if self.count >= size {
+        if self.is_full() {
             return Err(TapeFault::Full);
         }
-        let last = place(self.start.min(size), self.count, size);
-        self.cells[last] = x;
+        let count = self.count;
+        let end = self.place(count);
+        self.cells[end] = x;
         self.count += 1;
         Ok(())
     }
@@ -124,16 +151,11 @@ impl<'a, T: Blank> Tape<'a, T> {
         ensures size { length (cells_of self.new) ≡ length (cells_of self.old) }
         ensures lender { self.new.cells.ghost_name ≡ self.old.cells.ghost_name }
     {
-        let count = self.len();
-        if count == 0 {
-            return Err(TapeFault::Empty);
-        }
-        let size = self.cells.len();
-        let first = place(self.start.min(size), 0, size);
-        let x = self.at(first);
+        let x = self.peek()?;
+        let first = self.place(0);
         self.cells[first] = T::blank();
         self.start = first + 1;
-        self.count = count - 1;
+        self.count -= 1;
         Ok(x)
     }
 
@@ -142,7 +164,6 @@ impl<'a, T: Blank> Tape<'a, T> {
         ensures cells { result.now ≡ self.entry.cells.now }
         ensures lender { result.ghost_name ≡ self.entry.cells.ghost_name }
     {
-        let Tape { cells, .. } = self;
-        cells
+        self.cells
     }
 }
