@@ -12,9 +12,9 @@ pub loop-command-preserved : goal.loop-command-preserved
 loop-command-preserved c =
     let commands = c.args.commands.now in
     let i = c.loop-command.command-index in
-    filling_more c.args.out.now (map order_of commands) i c.loop-command.size c.loop-command.out c.loop-command.invariant
+    filling_more c.args.out.now (map order_of commands) i c.loop-command.done c.loop-command.out c.loop-command.invariant
     (order_of (get_or commands i (Out 0 0))) (row_here commands i (Out 0 0) (search rules)) (row_front commands i (Out 0 0) (search rules))
-    c.write.new.out c.write.ensures.block c.in-Ok.more c.in-Ok.ensures.answer c.write.ensures.reads_back
+    c.write.new.out c.write.ensures.block c.in-Ok.size c.in-Ok.ensures.answer c.write.ensures.reads_back
 
 pub returns-in-Err : goal.returns-in-Err
 returns-in-Err c =
@@ -22,12 +22,12 @@ returns-in-Err c =
     let i = c.loop-command.command-index in
     let orders = map order_of commands in
     let full =
-    filling_full c.args.out.now orders i c.loop-command.size c.loop-command.out c.loop-command.invariant
+    filling_full c.args.out.now orders i c.loop-command.done c.loop-command.out c.loop-command.invariant
     (order_of (get_or commands i (Out 0 0))) (row_here commands i (Out 0 0) (search rules)) (row_front commands i (Out 0 0) (search rules))
     c.write.new.out c.write.ensures.block (number_of c.in-Err.refusal) c.in-Err.ensures.answer
     in
     record {
-      size = written_size _ orders i _ _ full.1 full.0;
+      done = written_size _ orders i _ _ full.1 full.0;
       refusal = full.2 ∙ written_some _ orders i _ _ full.1 full.0 (simp length-map (search rules));
       block = written_block _ orders i _ _ full.1 full.0;
       whole = search rules;
@@ -40,7 +40,7 @@ returns c =
     let i = c.loop-command.command-index in
     let all = filling_all _ orders i _ _ c.loop-command.invariant (simp length-map (search rules)) in
     record {
-      size = written_size _ orders i _ _ c.loop-command.invariant all;
+      done = written_size _ orders i _ _ c.loop-command.invariant all;
       refusal = written_all _ orders i _ _ c.loop-command.invariant all (simp length-map (search rules));
       block = written_block _ orders i _ _ c.loop-command.invariant all;
       whole = λ _. all ∙ take_all i orders (simp length-map (search rules));
