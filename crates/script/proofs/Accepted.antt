@@ -38,9 +38,9 @@ is_refused (b ∷ s) number read = grind (arith, nat_tests)
 
 same : (o p : Order) (s t : List ℕ) → There p s t → Ok (Some o) ≡ read_of s → s ≡ bytes_of o ++ rest_of s
 same o p s t there read =
-    let r = there.answer in
+    let r = there.read.answer in
     let e : p ≡ o = cc in
-    there.bytes ∙ ap (λ q. bytes_of q ++ t) e ∙ ap (λ u. bytes_of o ++ u) there.rest
+    there.bytes ∙ ap (λ q. bytes_of q ++ t) e ∙ ap (λ u. bytes_of o ++ u) there.read.rest
 
 -- A command that was read stood there as its bytes.
 stood : (s : List ℕ) (order : Order) → ((i : ℕ) → get_or s i 0 < 256) → Ok (Some order) ≡ read_of s → s ≡ bytes_of order ++ rest_of s

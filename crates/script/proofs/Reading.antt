@@ -36,10 +36,8 @@ rest_back order s read = ap (λ r. rest_after r (bytes_of order ++ s)) read ∙ 
 
 -- A command that stands before t, read at s: what is answered, left, and how much less that is.
 pub record There (order : Order) (s t : List ℕ) : Type 0 where
-  pub answer : Ok (Some order) ≡ read_of s
-  pub rest : t ≡ rest_of s
   pub bytes : s ≡ bytes_of order ++ t
-  pub shorter : length t < length s
+  pub read : record { answer : Ok (Some order) ≡ read_of s; rest : t ≡ rest_of s; shorter : length t < length s }
 
 begins : (order : Order) → 0 < length (bytes_of order)
 begins (Out port value) = omega arith
@@ -52,8 +50,11 @@ begins Next = omega arith
 pub there : (order : Order) (s t : List ℕ) → InRange order → s ≡ bytes_of order ++ t → There order s t
 there order s t fits stood =
     record {
-      answer = sym (ap read_of stood ∙ command_reads_back order fits t);
-      rest = sym (ap rest_of stood ∙ rest_back order t (command_reads_back order fits t));
       bytes = stood;
-      shorter = omega (arith, begins order, ap length stood ∙ length-append (bytes_of order) t);
+      read =
+          record {
+            answer = sym (ap read_of stood ∙ command_reads_back order fits t);
+            rest = sym (ap rest_of stood ∙ rest_back order t (command_reads_back order fits t));
+            shorter = omega (arith, begins order, ap length stood ∙ length-append (bytes_of order) t);
+          };
     }
