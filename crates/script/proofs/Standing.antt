@@ -50,7 +50,7 @@ module _ (s : List ℕ) where
     pub put_there : (n : ℕ) → get_or s 0 0 ≡ 5 → n ≡ get_or s 1 0 + get_or s 2 0 * 256 + get_or s 3 0 * 65536 + get_or s 4 0 * 16777216 → get_or s 1 0 < 256 → get_or s 2 0 < 256 → get_or s 3 0 < 256 → get_or s 4 0 < 256 → There (Put n bytes) s rest
     put_there n begins is_number h1 h2 h3 h4 =
         let all = first_5 put_size in
-        let b = four_bytes (get_or s 1 0) (get_or s 2 0) h1 h2 (get_or s 3 0) (get_or s 4 0) h3 h4 n is_number in
+        let b = four_bytes (get_or s 1 0) (get_or s 2 0) (get_or s 3 0) (get_or s 4 0) h1 h2 h3 h4 n is_number in
         there (Put n bytes) s rest (omega arith, eight) (cc)
 
 -- Eight bytes and the rest, as they are split off.
