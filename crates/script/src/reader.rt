@@ -23,11 +23,13 @@ impl<'a> Script<'a> {
     }
 
     // The next command, and `None` at the end. A refusal leaves the place where it was.
+    // No `Iterator` beside it: the refusal would come again without end, so no `for` over it is proved.
     pub fn next(&mut self) -> Result<Option<Command<'a>>, ScriptFault>
         ensures answer { said_by result ≡ read_of (left self.old) }
         ensures rest { left self.new ≡ rest_of (left self.old) }
         ensures shorter { Shorter result (left self.old) (left self.new) }
     {
+        // Each arm returns by itself: as the match's value it would be proved once for each way to it.
         match *self.rest {
             [] => Ok(None),
             [OUT, low, high, value, ref rest @ ..] => {
