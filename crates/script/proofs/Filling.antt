@@ -98,12 +98,7 @@ module _ (first : List ℕ) (orders : List Order) (i size : ℕ) (block : List �
         let bytes = bytes_of order in
         let known = size_ok (take (length block - size) (drop size block)) bytes k answer in
         let place : length bytes ≤ length first - size = simp length-drop at (rw part_is at known.0) in
-        let past : part ≡ bytes ++ drop k (drop size first) =
-        is_part
-        ∙ cond-false _ _ _ (le-ltb _ _ known.0)
-        ∙ ap (λ u. bytes ++ drop (length bytes) u) part_is
-        ∙ ap (λ m. bytes ++ drop m (drop size first)) (sym known.1)
-        in
+        let past : part ≡ bytes ++ drop k (drop size first) = is_part ∙ cond-false _ _ _ (le-ltb _ _ known.0) ∙ (cc (part_is, known.1)) in
         record {
           fits =
               let left : length first - size - length bytes ≡ length first - (size + k) = omega arith in

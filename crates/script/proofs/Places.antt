@@ -16,11 +16,7 @@ module _ (commands : List Command) (count : ℕ) where
 
   -- The places past them are as they were.
   pub others_more : (command : Command) (first : List Command) → drop count commands ≡ drop count first → drop (count + 1) (set commands count command) ≡ drop (count + 1) first
-  others_more command first same =
-      drop-set-lt (count + 1) commands count command (omega arith)
-      ∙ sym (drop-drop 1 count commands)
-      ∙ ap (drop 1) same
-      ∙ drop-drop 1 count first
+  others_more command first same = cc (drop-set-lt (count + 1) commands count command (omega arith), drop-drop 1 count commands, drop-drop 1 count first)
 
 -- What is said of a script read into places that were `first` and are `after`, once it is known what it reads as.
 module _ (script : List ℕ) (first after : List Command) (count number : ℕ) where
