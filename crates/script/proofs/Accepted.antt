@@ -30,21 +30,18 @@ is_next b s read = grind (arith, nat_tests)
 -- A script with a byte left has not ended, and no refusal has the number 0.
 is_end : (s : List ℕ) → Ok None ≡ read_of s → s ≡ []
 is_end [] read = refl
-is_end (b ∷ s) read = let z : ◌≡◌ {A = ℕ} 0 1 = grind (arith, nat_tests) in absurd (omega arith)
+is_end (b ∷ s) read = grind (arith, nat_tests)
 
 is_refused : (s : List ℕ) (number : ℕ) → Err number ≡ read_of s → 0 < number
-is_refused [] number read = let z : ◌≡◌ {A = ℕ} 0 1 = cc in absurd (omega arith)
+is_refused [] number read = absurd (cc)
 is_refused (b ∷ s) number read = grind (arith, nat_tests)
 
 same : (o p : Order) (s t : List ℕ) → There p s t → Ok (Some o) ≡ read_of s → s ≡ bytes_of o ++ rest_of s
-same o p s t there read =
-    let r = there.answer in
-    let e : p ≡ o = cc in
-    there.bytes ∙ ap (λ q. bytes_of q ++ t) e ∙ ap (λ u. bytes_of o ++ u) there.rest
+same o p s t there read = cc
 
 -- A command that was read stood there as its bytes.
 stood : (s : List ℕ) (order : Order) → ((i : ℕ) → get_or s i 0 < 256) → Ok (Some order) ≡ read_of s → s ≡ bytes_of order ++ rest_of s
-stood [] order small read = let z : ◌≡◌ {A = ℕ} 0 1 = cc in absurd (omega arith)
+stood [] order small read = cc
 stood (b ∷ s) (Out port value) small read =
     let k = is_out b s port value read in
     same _ _ _ _ (out_there (b ∷ s) _ refl (small 1) (small 2) (omega arith) k.0) read
@@ -67,12 +64,12 @@ stood (b ∷ s) Next small read = same _ _ _ _ (next_there (b ∷ s) (omega arit
 full : (s : List ℕ) (r : Result (Option Order) ℕ) → r ≡ read_of s → (read_full r).refusal ≡ 0 → script_of (read_full r).orders ≡ s
 full s (Ok (Some order)) read end = absurd (omega arith)
 full s (Ok None) read end = sym (is_end s read)
-full s (Err number) read end = let z = is_refused s number read in absurd (omega arith)
+full s (Err number) read end = absurd (omega (arith, is_refused s number read))
 
 more : (s : List ℕ) (r : Result (Option Order) ℕ) (next : Reading) → ((i : ℕ) → get_or s i 0 < 256) → r ≡ read_of s → (next.refusal ≡ 0 → script_of next.orders ≡ rest_of s) → (read_more r next).refusal ≡ 0 → script_of (read_more r next).orders ≡ s
 more s (Ok (Some order)) next small read rest end = ap (λ u. bytes_of order ++ u) (rest end) ∙ sym (stood s order small read)
 more s (Ok None) next small read rest end = sym (is_end s read)
-more s (Err number) next small read rest end = let z = is_refused s number read in absurd (omega arith)
+more s (Err number) next small read rest end = absurd (omega (arith, is_refused s number read))
 
 -- What is left of a row of bytes is one.
 rest_small : (s : List ℕ) (r : Result (Option Order) ℕ) → ((i : ℕ) → get_or s i 0 < 256) → (i : ℕ) → get_or (rest_after r s) i 0 < 256

@@ -1,12 +1,14 @@
 -- A block filled command by command.
-use Rattle.std.proofs.Common.{◌≡◌, ℕ, ◌+◌, ◌-◌, ◌<◌, ◌≤◌, List, [], ◌∷◌, ◌++◌, length, take, drop, Ok, Err, sym, refl, ap, ◌∙◌, arith}
+use Rattle.std.proofs.Common.{◌≡◌, ℕ, ◌+◌, ◌-◌, ◌<◌, ◌≤◌, List, [], ◌∷◌, ◌++◌, length, take, drop, Some, None, Ok, Err, Option, sym, refl, ap, ◌∙◌, arith}
 use borrow.Rule.Slice.PartMut.{put_mid}
 use Rattle.std.specs.List.{AllByRecursion as All}
 use Rattle.std.proofs.ByRecursion.{All-push}
-use Rattle.std.proofs.lemmas.List.{append-nil, append_assoc, flat_map_more, length-append, length-take, length-drop, take_rest, take_at, drop_at, drop_all, drop-drop}
+use Rattle.std.proofs.lemmas.List.{append-nil, append_assoc, flat_map_more, length-append, length-take, length-drop, take_rest, take_all, take_at, drop_at, drop_all, drop-drop}
 use Rattle.std.proofs.lemmas.Bool.{cond-true, cond-false, lt-ltb, le-ltb}
 use Rattle.std.proofs.lemmas.Bool.Decides.{nat_tests}
+use Rattle.script.specs.declared.fault.ScriptFault.{ScriptFault}
 use Rattle.script.specs.Commands.{Order, bytes_of, script_of}
+use Rattle.script.specs.Faults.{number_of, refusal_of}
 use Rattle.script.specs.Laws.{CommandReadsBack, ScriptReadsBack}
 use Rattle.script.specs.Writes.{size_in, block_after, fitting, refused_in}
 use Rattle.script.proofs.Rows.{script_reads_back}
@@ -55,21 +57,37 @@ module _ (first : List ℕ) (orders : List Order) (i size : ℕ) (block : List �
   ends end = so.fits ∙ ap (λ u. take i orders ++ u) end ∙ append-nil (take i orders)
 
   -- Where the commands so far are all that fit, they are what was written, and read back.
-  module _ (end : fitting (length first) orders ≡ take i orders) where
-    pub written_size : size ≡ length (script_of (fitting (length first) orders))
-    written_size = so.sized ∙ ap (λ os. length (script_of os)) (sym end)
+  abbrev pub WrittenAs : Option ScriptFault → Type 0
+  WrittenAs fault =
+      record {
+        done : size ≡ length (script_of (fitting (length first) orders));
+        refusal : refusal_of fault ≡ refused_in (length first) orders;
+        block : block ≡ script_of (fitting (length first) orders) ++ drop size first;
+        whole : fault ≡ None → fitting (length first) orders ≡ orders;
+        reads_back : ScriptReadsBack (fitting (length first) orders);
+      }
 
-    pub written_block : block ≡ script_of (fitting (length first) orders) ++ drop size first
-    written_block = so.filled ∙ ap (λ os. script_of os ++ drop size first) (sym end)
+  written_as : (fault : Option ScriptFault) → refusal_of fault ≡ refused_in (length first) orders → (fault ≡ None → fitting (length first) orders ≡ orders) → fitting (length first) orders ≡ take i orders → WrittenAs fault
+  written_as fault refusal whole end =
+      record {
+        done = so.sized ∙ ap (λ os. length (script_of os)) (sym end);
+        refusal = refusal;
+        block = so.filled ∙ ap (λ os. script_of os ++ drop size first) (sym end);
+        whole = whole;
+        reads_back = rw end (script_reads_back (take i orders) so.back);
+      }
 
-    pub written_some : i < length orders → 53 ≡ refused_in (length first) orders
-    written_some more = sym (cond-true _ _ _ (lt-ltb (length (fitting (length first) orders)) (length orders) (rw end (simp length-take (omega arith)))))
+  pub written_some : (fault : ScriptFault) → number_of fault ≡ 53 → i < length orders → fitting (length first) orders ≡ take i orders → WrittenAs (Some fault)
+  written_some fault number more end =
+      let short = lt-ltb (length (fitting (length first) orders)) (length orders) (rw end (simp length-take (omega arith))) in
+      written_as (Some fault) (number ∙ sym (cond-true _ _ _ short)) (λ none. cc) end
 
-    pub written_all : length orders ≤ i → 0 ≡ refused_in (length first) orders
-    written_all all = sym (cond-false _ _ _ (le-ltb (length (fitting (length first) orders)) (length orders) (rw end (simp length-take (omega arith)))))
-
-    pub written_reads_back : ScriptReadsBack (fitting (length first) orders)
-    written_reads_back = rw end (script_reads_back (take i orders) so.back)
+  -- At the row's end all of it is written.
+  pub written_all : length orders ≤ i → WrittenAs None
+  written_all all =
+      let end = ends (ap (fitting (length first - size)) (drop_all i orders all) ∙ fits_end (length first - size)) in
+      let long = le-ltb (length (fitting (length first) orders)) (length orders) (rw end (simp length-take (omega arith))) in
+      written_as None (sym (cond-false _ _ _ long)) (λ none. end ∙ take_all i orders all) end
 
   module _ (order : Order) (here : drop i orders ≡ order ∷ drop (i + 1) orders) (front : take (i + 1) orders ≡ take i orders ++ order ∷ []) (part : List ℕ) (is_part : part ≡ block_after (take (length block - size) (drop size block)) (bytes_of order)) where
     script_more : script_of (take i orders) ++ bytes_of order ≡ script_of (take (i + 1) orders)
@@ -80,27 +98,18 @@ module _ (first : List ℕ) (orders : List Order) (i size : ℕ) (block : List �
         let bytes = bytes_of order in
         let known = size_ok (take (length block - size) (drop size block)) bytes k answer in
         let place : length bytes ≤ length first - size = simp length-drop at (rw part_is at known.0) in
-        let past : part ≡ bytes ++ drop k (drop size first) =
-        is_part
-        ∙ cond-false _ _ _ (le-ltb _ _ known.0)
-        ∙ ap (λ u. bytes ++ drop (length bytes) u) part_is
-        ∙ ap (λ m. bytes ++ drop m (drop size first)) (sym known.1)
-        in
+        let past : part ≡ bytes ++ drop k (drop size first) = is_part ∙ cond-false _ _ _ (le-ltb _ _ known.0) ∙ (cc (part_is, known.1)) in
         record {
           fits =
-              so.fits
-              ∙ ap (λ u. take i orders ++ u) (ap (fitting (length first - size)) here ∙ fits_one (length first - size) order (drop (i + 1) orders) place)
-              ∙ sym (append_assoc (take i orders) (order ∷ []) (fitting (length first - size - length bytes) (drop (i + 1) orders)))
-              ∙ ap (λ u. u ++ fitting (length first - size - length bytes) (drop (i + 1) orders)) (sym front)
-              ∙ ap (λ m. take (i + 1) orders ++ fitting m (drop (i + 1) orders)) (omega arith);
+              let left : length first - size - length bytes ≡ length first - (size + k) = omega arith in
+              cc (
+                so.fits,
+                fits_one (length first - size) order (drop (i + 1) orders) place,
+                append_assoc (take i orders) (order ∷ []) (fitting (length first - size - length bytes) (drop (i + 1) orders)),
+              );
           sized = omega (arith, so.sized, known.1, sym (length-append (script_of (take i orders)) bytes) ∙ ap length script_more);
           within = omega (arith, so.within, known.1);
-          filled =
-              block_is part
-              ∙ ap (λ u. script_of (take i orders) ++ u) past
-              ∙ sym (append_assoc (script_of (take i orders)) bytes (drop k (drop size first)))
-              ∙ ap (λ u. u ++ drop k (drop size first)) script_more
-              ∙ ap (λ u. script_of (take (i + 1) orders) ++ u) (drop-drop k size first);
+          filled = cc (block_is part, past, append_assoc (script_of (take i orders)) bytes (drop k (drop size first)), script_more, drop-drop k size first);
           back = rw front (All-push CommandReadsBack (take i orders) order so.back back);
         }
 
@@ -114,7 +123,3 @@ module _ (first : List ℕ) (orders : List Order) (i size : ℕ) (block : List �
           record { fits = so.fits; sized = so.sized; within = so.within; filled = block_is part ∙ ap (λ u. script_of (take i orders) ++ u) past; back = so.back },
           known.1,
         )
-
-  -- At the row's end all of it is written.
-  pub filling_all : length orders ≤ i → fitting (length first) orders ≡ take i orders
-  filling_all end = ends (ap (fitting (length first - size)) (drop_all i orders end) ∙ fits_end (length first - size))

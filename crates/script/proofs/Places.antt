@@ -3,6 +3,9 @@ use Rattle.std.proofs.Common.{◌≡◌, ℕ, ◌+◌, ◌<◌, ◌≤◌, List,
 use Rattle.std.proofs.lemmas.List.{take_more_set, map_push, length-map, length-take-le, drop-set-lt, drop-drop, get_or-map, drop_more, take_more}
 use Rattle.script.specs.declared.command.Command.{Command}
 use Rattle.script.specs.Commands.{order_of}
+use Rattle.script.specs.Laws.{ScriptRewrites}
+use Rattle.script.specs.Reads.{read_into}
+use Rattle.script.proofs.Accepted.{script_rewrites}
 
 module _ (commands : List Command) (count : ℕ) where
   pub placed_length : count ≤ length commands → length (map order_of (take count commands)) ≡ count
@@ -13,11 +16,30 @@ module _ (commands : List Command) (count : ℕ) where
 
   -- The places past them are as they were.
   pub others_more : (command : Command) (first : List Command) → drop count commands ≡ drop count first → drop (count + 1) (set commands count command) ≡ drop (count + 1) first
-  others_more command first same =
-      drop-set-lt (count + 1) commands count command (omega arith)
-      ∙ sym (drop-drop 1 count commands)
-      ∙ ap (drop 1) same
-      ∙ drop-drop 1 count first
+  others_more command first same = cc (drop-set-lt (count + 1) commands count command (omega arith), drop-drop 1 count commands, drop-drop 1 count first)
+
+-- What is said of a script read into places that were `first` and are `after`, once it is known what it reads as.
+module _ (script : List ℕ) (first after : List Command) (count number : ℕ) where
+  abbrev pub ReadAs : Type 0
+  ReadAs =
+      record {
+        done : count ≡ length (read_into (length first) script).orders;
+        refusal : number ≡ (read_into (length first) script).refusal;
+        commands : map order_of (take count after) ≡ (read_into (length first) script).orders;
+        others : drop count after ≡ drop count first;
+        rewrites : ScriptRewrites script;
+      }
+
+  pub read_as : ((i : ℕ) → get_or script i 0 < 256) → count ≤ length after → drop count after ≡ drop count first
+      → read_into (length first) script ≡ record { orders = map order_of (take count after); refusal = number } → ReadAs
+  read_as small size others read =
+      record {
+        done = sym (placed_length after count size) ∙ ap (λ r. length r.orders) (sym read);
+        refusal = ap (λ r. r.refusal) (sym read);
+        commands = ap (λ r. r.orders) (sym read);
+        others = others;
+        rewrites = script_rewrites script small;
+      }
 
 -- The command at a place of a row.
 module _ (commands : List Command) (i : ℕ) (d : Command) (inside : i < length commands) where

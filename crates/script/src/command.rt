@@ -1,4 +1,5 @@
 // The commands of a script, and the byte that each begins with.
+// Constants and no enum's discriminants: the reader's slice patterns take no cast.
 
 pub const OUT: u8 = 0x01;
 

@@ -2,24 +2,35 @@
 ghost use Rattle.std.specs.Prelude.{◌≡◌};
 ghost use Rattle.script.specs.Faults.{number_of};
 
+use std::error::Error;
+use std::fmt;
+
 #[derive(Clone, Copy, PartialEq, Eq, Debug)]
 pub enum ScriptFault {
     // The byte is no command.
-    Unknown,
+    Unknown = 51,
     // The script ends before the command's last operand byte.
-    CutShort,
+    CutShort = 52,
     // There is no place for the whole command.
-    NoPlace,
+    NoPlace = 53,
 }
 
 impl ScriptFault {
     pub fn number(self) -> u8
         ensures { result ≡ number_of self }
     {
-        match self {
-            ScriptFault::Unknown => 51,
-            ScriptFault::CutShort => 52,
-            ScriptFault::NoPlace => 53,
-        }
+        self as u8
     }
 }
+
+impl fmt::Display for ScriptFault {
+    fn fmt<W: fmt::Write>(&self, f: &mut fmt::Formatter<W>) -> fmt::Result {
+        f.write_str(match self {
+            ScriptFault::Unknown => "the byte is no command",
+            ScriptFault::CutShort => "the script ends inside the command",
+            ScriptFault::NoPlace => "there is no place for the whole of it",
+        })
+    }
+}
+
+impl Error for ScriptFault {}

@@ -7,6 +7,7 @@ ghost use Rattle.script.specs.Reads.{left, read_of, rest_of, read_into, said_by,
 
 use crate::command::{Command, IN, LINES, NEXT, OUT, PUT, STEP};
 use crate::fault::ScriptFault;
+use crate::progress::Progress;
 
 // A script, from the command that is read next.
 #[derive(Drop)]
@@ -22,11 +23,13 @@ impl<'a> Script<'a> {
     }
 
     // The next command, and `None` at the end. A refusal leaves the place where it was.
+    // No `Iterator` beside it: the refusal would come again without end, so no `for` over it is proved.
     pub fn next(&mut self) -> Result<Option<Command<'a>>, ScriptFault>
         ensures answer { said_by result ≡ read_of (left self.old) }
         ensures rest { left self.new ≡ rest_of (left self.old) }
         ensures shorter { Shorter result (left self.old) (left self.new) }
     {
+        // Each arm returns by itself: as the match's value it would be proved once for each way to it.
         match *self.rest {
             [] => Ok(None),
             [OUT, low, high, value, ref rest @ ..] => {
@@ -66,43 +69,36 @@ impl<'a> Script<'a> {
     }
 }
 
-// How many commands were read, and what ended the reading before the script's end.
-#[derive(Clone, Copy, PartialEq, Eq, Debug)]
-pub struct Parsed {
-    pub count: usize,
-    pub refusal: Option<ScriptFault>,
-}
-
 // Reads a script into `commands`, up to its end or the first refusal.
-pub fn read_all<'a>(bytes: &'a [u8], commands: &mut [Command<'a>]) -> Parsed
-    ensures count { result.count ≡ length (read_into (length commands.old) bytes.now).orders }
+pub fn read_all<'a>(bytes: &'a [u8], commands: &mut [Command<'a>]) -> Progress
+    ensures done { result.done ≡ length (read_into (length commands.old) bytes.now).orders }
     ensures refusal { refusal_of result.refusal ≡ (read_into (length commands.old) bytes.now).refusal }
-    ensures commands { map order_of (take result.count commands.new) ≡ (read_into (length commands.old) bytes.now).orders }
-    ensures others { drop result.count commands.new ≡ drop result.count commands.old }
+    ensures commands { map order_of (take result.done commands.new) ≡ (read_into (length commands.old) bytes.now).orders }
+    ensures others { drop result.done commands.new ≡ drop result.done commands.old }
     ensures rewrites { ScriptRewrites bytes.now }
 {
     let mut script = Script::new(bytes);
-    let mut count = 0;
-    loop {
+    for (done, place) in commands.iter_mut().enumerate() {
         match script.next() {
-            Ok(Some(command)) => {
-                if count == commands.len() {
-                    return Parsed {
-                        count,
-                        refusal: Some(ScriptFault::NoPlace),
-                    };
-                }
-                commands[count] = command;
-                count += 1;
-            }
-            Ok(None) => return Parsed {
-                count,
+            Ok(Some(command)) => *place = command,
+            Ok(None) => return Progress {
+                done,
                 refusal: None,
             },
-            Err(refusal) => return Parsed {
-                count,
+            Err(refusal) => return Progress {
+                done,
                 refusal: Some(refusal),
             },
         }
+    }
+    // Every place is taken.
+    let refusal = match script.next() {
+        Ok(Some(_)) => Some(ScriptFault::NoPlace),
+        Ok(None) => None,
+        Err(refusal) => Some(refusal),
+    };
+    Progress {
+        done: commands.len(),
+        refusal,
     }
 }

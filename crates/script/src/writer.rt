@@ -7,16 +7,17 @@ ghost use Rattle.script.specs.Writes.{size_in, block_after, fitting, refused_in}
 
 use crate::command::{Command, IN, LINES, NEXT, OUT, PUT, STEP};
 use crate::fault::ScriptFault;
+use crate::progress::Progress;
 
 // Writes all of `bytes` at the start of `out` and answers how many, or writes nothing.
 pub fn place(bytes: &[u8], out: &mut [u8]) -> Result<usize, ScriptFault>
     ensures answer { numbered result ≡ size_in out.old bytes.now }
     ensures block { out.new ≡ block_after out.old bytes.now }
 {
-    if out.len() < bytes.len() {
-        return Err(ScriptFault::NoPlace);
-    }
-    out[0..bytes.len()].copy_from_slice(bytes);
+    let (start, _) = out
+        .split_at_mut_checked(bytes.len())
+        .ok_or(ScriptFault::NoPlace)?;
+    start.copy_from_slice(bytes);
     Ok(bytes.len())
 }
 
@@ -58,33 +59,27 @@ impl Command<'_> {
     }
 }
 
-// How many bytes were written, and what ended the writing before the last command.
-#[derive(Clone, Copy, PartialEq, Eq, Debug)]
-pub struct Written {
-    pub size: usize,
-    pub refusal: Option<ScriptFault>,
-}
-
 // Writes a row of commands into `out`, up to the last or to the first that finds no place.
-pub fn write_all(commands: &[Command], out: &mut [u8]) -> Written
-    ensures size { result.size ≡ length (script_of (fitting (length out.old) (map order_of commands.now))) }
+pub fn write_all(commands: &[Command], out: &mut [u8]) -> Progress
+    ensures done { result.done ≡ length (script_of (fitting (length out.old) (map order_of commands.now))) }
     ensures refusal { refusal_of result.refusal ≡ refused_in (length out.old) (map order_of commands.now) }
-    ensures block { out.new ≡ script_of (fitting (length out.old) (map order_of commands.now)) ++ drop result.size out.old }
+    ensures block { out.new ≡ script_of (fitting (length out.old) (map order_of commands.now)) ++ drop result.done out.old }
     ensures whole { result.refusal ≡ None → fitting (length out.old) (map order_of commands.now) ≡ map order_of commands.now }
     ensures reads_back { ScriptReadsBack (fitting (length out.old) (map order_of commands.now)) }
 {
-    let mut size = 0;
+    // Summed by hand: a `try_fold` would lose the sum with the refusal.
+    let mut done = 0;
     for command in commands {
-        match command.write(&mut out[size..]) {
-            Ok(more) => size += more,
-            Err(refusal) => return Written {
-                size,
+        match command.write(&mut out[done..]) {
+            Ok(size) => done += size,
+            Err(refusal) => return Progress {
+                done,
                 refusal: Some(refusal),
             },
         }
     }
-    Written {
-        size,
+    Progress {
+        done,
         refusal: None,
     }
 }

@@ -5,4 +5,4 @@ use Rattle.script.proofs.Filling.{Filling}
 use Rattle.script.proofs.writer.write_all.Given as goal
 
 abbrev pub invariant-loop-command : goal.invariant-loop-command
-invariant-loop-command l = Filling l.initial.out (map order_of l.commands) l.command-index l.size l.out
+invariant-loop-command l = Filling l.initial.out (map order_of l.commands) l.command-index l.done l.out

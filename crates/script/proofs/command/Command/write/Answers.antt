@@ -4,10 +4,5 @@ use Rattle.script.specs.Commands.{Put}
 use Rattle.script.proofs.Reading.{command_reads_back}
 use Rattle.script.proofs.command.Command.write.Goals as goal
 
-pub returns-in-Put : goal.returns-in-Put
-returns-in-Put c =
-    record {
-      answer = search rules;
-      block = search rules;
-      reads_back = λ s. rw c.in-Put.is (command_reads_back (Put c.in-Put.address c.in-Put.bytes.now) (search rules, c.put_bytes.ensures.eight) s);
-    }
+pub returns-in-Put-clause-reads_back : goal.returns-in-Put-clause-reads_back
+returns-in-Put-clause-reads_back c = λ s. rw c.in-Put.is (command_reads_back (Put c.in-Put.address c.in-Put.bytes.now) (search rules, c.put_bytes.ensures.eight) s)

@@ -4,28 +4,21 @@ use Rattle.std.proofs.lemmas.List.{take_rest}
 use Rattle.script.proofs.Standing.{out_there, in_there, lines_there, step_there, put_there, next_there, split_whole, split_eight}
 use Rattle.script.proofs.reader.Script.next.Goals as goal
 
-pub returns-in-empty : goal.returns-in-empty
-returns-in-empty c = record { answer = search rules; rest = search rules; shorter = tt }
-
 pub returns-in-1 : goal.returns-in-1
 returns-in-1 c =
-    let t = out_there c.args.self.now.rest.now _ c.from_le_bytes-port.ensures (search rules) (search rules) (search rules) (search rules) in
-    record { answer = t.answer; rest = t.rest; shorter = t.shorter }
+    (out_there c.args.self.now.rest.now _ c.from_le_bytes-port.ensures (search rules) (search rules) (search rules) (search rules)).read
 
 pub returns-in-2 : goal.returns-in-2
 returns-in-2 c =
-    let t = in_there c.args.self.now.rest.now _ c.from_le_bytes-port-in-2.ensures (search rules) (search rules) (search rules) (search rules) in
-    record { answer = t.answer; rest = t.rest; shorter = t.shorter }
+    (in_there c.args.self.now.rest.now _ c.from_le_bytes-port-in-2.ensures (search rules) (search rules) (search rules) (search rules)).read
 
 pub returns-in-3 : goal.returns-in-3
 returns-in-3 c =
-    let t = lines_there c.args.self.now.rest.now (search rules) (search rules) in
-    record { answer = t.answer; rest = t.rest; shorter = t.shorter }
+    (lines_there c.args.self.now.rest.now (search rules) (search rules)).read
 
 pub returns-in-4 : goal.returns-in-4
 returns-in-4 c =
-    let t = step_there c.args.self.now.rest.now _ c.from_le_bytes-count.ensures (search rules) (search rules) (search rules) (search rules) in
-    record { answer = t.answer; rest = t.rest; shorter = t.shorter }
+    (step_there c.args.self.now.rest.now _ c.from_le_bytes-count.ensures (search rules) (search rules) (search rules) (search rules)).read
 
 pub returns-in-5 : goal.returns-in-5
 returns-in-5 c =
@@ -33,10 +26,8 @@ returns-in-5 c =
     let h = c.in-Some.ensures.cases in
     let after = sym (take_rest s 5) ∙ split_whole (take (length s - 5) (drop 5 s)) _ _ h.0 h.1 in
     let eight = split_eight (take (length s - 5) (drop 5 s)) _ _ h.0 h.1 h.2 in
-    let t = put_there s _ _ after eight _ (search rules) c.from_le_bytes-address.ensures (search rules) (search rules) (search rules) (search rules) in
-    record { answer = t.answer; rest = t.rest; shorter = t.shorter }
+    (put_there s _ _ after eight _ (search rules) c.from_le_bytes-address.ensures (search rules) (search rules) (search rules) (search rules)).read
 
 pub returns-in-6 : goal.returns-in-6
 returns-in-6 c =
-    let t = next_there c.args.self.now.rest.now (search rules) (search rules) in
-    record { answer = t.answer; rest = t.rest; shorter = t.shorter }
+    (next_there c.args.self.now.rest.now (search rules) (search rules)).read
