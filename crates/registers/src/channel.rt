@@ -3,7 +3,7 @@ ghost use Rattle.std.specs.Prelude.{◌≡◌, ◌%◌};
 ghost use Rattle.registers.specs.Channels.{blank, fresh, rest_span, addressed, low_paged, high_paged, counted, start_refusal, put_byte, byte_of, bytes_of, from_bytes, with_address, with_count, with_low, with_high, with_mode, with_extended_mode, with_line, with_mask, with_request, with_terminal, cleared, with_table_byte, with_list_command, list_refusal, list_begins, list_status, unfit, misplaced, halted, selected, bit, is_loaded};
 ghost use Rattle.registers.specs.Refusals.{shown};
 
-use crate::list::List;
+use crate::list::{List, ListCommand};
 use crate::mode::{Mode, Service};
 use crate::refusal::Refusal;
 use bus::place::{Addressing, Place};
@@ -34,20 +34,16 @@ pub struct Channel {
 fn put_byte(high: bool, value: u8, old: u16) -> u16
     ensures { result ≡ put_byte high value old }
 {
-    let [low, top] = old.to_le_bytes();
-    if high {
-        u16::from_le_bytes([low, value])
-    } else {
-        u16::from_le_bytes([value, top])
-    }
+    let mut bytes = old.to_le_bytes();
+    bytes[usize::from(high)] = value;
+    u16::from_le_bytes(bytes)
 }
 
 // One byte of a 16-bit register.
 pub(crate) fn byte_of(high: bool, word: u16) -> u8
     ensures { result ≡ byte_of high word }
 {
-    let [low, top] = word.to_le_bytes();
-    if high { top } else { low }
+    word.to_le_bytes()[usize::from(high)]
 }
 
 impl Span {
@@ -73,38 +69,34 @@ impl Span {
         Span {
             place: Place {
                 address,
-                low: self.place.low,
                 high: 0,
+                ..self.place
             },
-            count: self.count,
+            ..self
         }
     }
 
     // The low page replaced, and the high page zeroed.
-    fn with_low(self, value: u8) -> Span
-        ensures { result ≡ low_paged value self }
+    fn with_low(self, low: u8) -> Span
+        ensures { result ≡ low_paged low self }
     {
         Span {
             place: Place {
-                address: self.place.address,
-                low: value,
+                low,
                 high: 0,
+                ..self.place
             },
-            count: self.count,
+            ..self
         }
     }
 
     // The high page replaced.
-    fn with_high(self, value: u8) -> Span
-        ensures { result ≡ high_paged value self }
+    fn with_high(self, high: u8) -> Span
+        ensures { result ≡ high_paged high self }
     {
         Span {
-            place: Place {
-                address: self.place.address,
-                low: self.place.low,
-                high: value,
-            },
-            count: self.count,
+            place: Place { high, ..self.place },
+            ..self
         }
     }
 
@@ -113,8 +105,8 @@ impl Span {
         ensures { result ≡ counted high value self }
     {
         Span {
-            place: self.place,
             count: put_byte(high, value, self.count),
+            ..self
         }
     }
 }
@@ -128,7 +120,7 @@ impl Channel {
             base: Span::rest(),
             current: Span::rest(),
             extended: false,
-            mode: Mode::rest(),
+            mode: Mode::default(),
             addressing,
             timing: 0,
             line: false,
@@ -246,6 +238,7 @@ impl Channel {
     }
 
     // One byte of the table pointer.
+    #[tactic(auto, unfolding(crate::specs::Channels::with_table_byte))]
     pub(crate) fn with_table_byte(self, byte: u8, value: u8) -> Channel
         ensures { result ≡ with_table_byte byte value self }
     {
@@ -266,13 +259,13 @@ impl Channel {
         ensures { result ≡ with_list_command value self }
     {
         let list = self.list.commanded(value);
-        match value % 4 {
-            1 => Channel {
+        match ListCommand::from(value) {
+            ListCommand::Start => Channel {
                 list: list.started(),
                 ..self
             },
-            2 => Channel { list, ..self }.halted(),
-            _ => Channel { list, ..self },
+            ListCommand::Stop => Channel { list, ..self }.halted(),
+            ListCommand::Nothing | ListCommand::Unknown => Channel { list, ..self },
         }
     }
 
@@ -307,10 +300,10 @@ impl Channel {
     pub(crate) fn refuses_command(self, value: u8) -> Result<(), Refusal>
         ensures { shown result ≡ list_refusal value self }
     {
-        match value % 4 {
-            1 => self.refuses_start(),
-            3 => Err(Refusal::NoSuchSetting),
-            _ => Ok(()),
+        match ListCommand::from(value) {
+            ListCommand::Start => self.refuses_start(),
+            ListCommand::Unknown => Err(Refusal::NoSuchSetting),
+            ListCommand::Nothing | ListCommand::Stop => Ok(()),
         }
     }
 
@@ -324,10 +317,7 @@ impl Channel {
             return Err(Refusal::UnfitForList);
         }
         let pointer = self.list.pointer;
-        if pointer % 4 != 0 {
-            return Err(Refusal::BadTablePointer);
-        }
-        if pointer > 0xFFFF_8000 {
+        if pointer % 4 != 0 || pointer > 0xFFFF_8000 {
             return Err(Refusal::BadTablePointer);
         }
         Ok(())
@@ -337,24 +327,19 @@ impl Channel {
     fn unfit_for_list(self) -> bool
         ensures { result ≡ unfit self }
     {
-        if self.mode.autoinitialise {
-            return true;
-        }
-        match (self.mode.service, self.addressing) {
-            (Service::Cascade, _) => true,
-            (_, Addressing::Words) => true,
-            (_, Addressing::Bytes) => false,
-        }
+        self.mode.autoinitialise
+            || self.mode.service == Service::Cascade
+            || self.addressing == Addressing::Words
     }
 
     // Whether an accepted list command begins a job: Start, or a Stop that ends the list.
     pub(crate) fn begins_job(self, value: u8) -> bool
         ensures { result ≡ list_begins value self }
     {
-        match value % 4 {
-            1 => true,
-            2 => self.list.active && !self.list.loaded,
-            _ => false,
+        match ListCommand::from(value) {
+            ListCommand::Start => true,
+            ListCommand::Stop => self.list.active && !self.list.loaded,
+            ListCommand::Nothing | ListCommand::Unknown => false,
         }
     }
 }

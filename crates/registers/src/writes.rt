@@ -148,7 +148,7 @@ impl Registers {
         match control {
             Control::Request => self.put(c, channel.with_request(value / 4 % 2 == 1)),
             Control::Mask => self.put(c, channel.with_mask(value / 4 % 2 == 1)),
-            Control::Mode => self.program(c, channel.with_mode(Mode::of(value))),
+            Control::Mode => self.program(c, channel.with_mode(Mode::from(value))),
             Control::ExtendedMode => self.program(c, channel.with_extended_mode(value)),
             Control::MasterClear => self.clear(dma),
             _ => self.set_group(control, dma, value),
