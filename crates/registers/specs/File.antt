@@ -23,6 +23,15 @@ use Rattle.registers.specs.Ports.{write_port, read_port}
 abbrev pub fresh_file : Registers
 fresh_file = record { first = fresh_group Bytes Bytes; second = fresh_group Bytes Words; service = None }
 
+-- a channel's group: One has channels 0 to 3, Two has 4 to 7
+abbrev pub dma_of : ℕ → Dma
+dma_of c = cond (nat_lt c 4) One Two
+
+-- a group's registers
+abbrev pub group_at : Registers → Dma → Group
+group_at k One = k.first
+group_at k Two = k.second
+
 -- channels 0 to 3 are of the first group, 4 to 7 of the second
 abbrev pub group_of : Registers → ℕ → Group
 group_of k c = cond (nat_lt c 4) k.first k.second
@@ -65,11 +74,6 @@ programmed c ch k = with_service (over c k.service) (with_channel c ch k)
 abbrev pub picked : Dma → ℕ → ℕ
 picked One v = v % 4
 picked Two v = 4 + v % 4
-
--- the group of channels 4 to 7
-abbrev pub second : Dma → Bool
-second One = false
-second Two = true
 
 -- the list of channel c is active
 abbrev pub busy : Registers → ℕ → Bool

@@ -1,6 +1,8 @@
 // The port map: which register a port number reaches, in each direction.
 ghost use Rattle.std.specs.Prelude.{◌≡◌};
-ghost use Rattle.registers.specs.Ports.{span_port, page_port, table_port, field_port, control_port, list_channel, write_port, read_port};
+ghost use Rattle.registers.specs.Ports.{span_port, page_port, table_port, field_port, control_port, list_channel, shown_port, write_port, read_port};
+
+use std::fmt;
 
 // One of the two groups of four channels.
 #[derive(Clone, Copy, PartialEq, Eq, Debug)]
@@ -101,30 +103,18 @@ fn page_port(port: u16) -> Option<(Field, u8)>
 fn table_port(port: u16) -> Option<(Field, u8)>
     ensures { result ≡ table_port port }
 {
-    if port < 0x420 {
-        return None;
-    }
-    if port >= 0x440 {
-        return None;
-    }
-    let place = port - 0x420;
-    if place / 4 == 4 {
-        return None;
-    }
-    Some((Field::Table((place % 4) as u8), (place / 4) as u8))
+    let place = port.checked_sub(0x420)?;
+    let channel = list_channel(place / 4, 0)?;
+    Some((Field::Table((place % 4) as u8), channel))
 }
 
 // Every register of a channel that goes both ways.
 fn field_port(port: u16) -> Option<(Field, u8)>
     ensures { result ≡ field_port port }
 {
-    match span_port(port) {
-        Some(found) => Some(found),
-        None => match page_port(port) {
-            Some(found) => Some(found),
-            None => table_port(port),
-        },
-    }
+    span_port(port)
+        .or_else(|| page_port(port))
+        .or_else(|| table_port(port))
 }
 
 // A group's registers.
@@ -158,52 +148,80 @@ fn control_port(port: u16) -> Option<(Control, Dma)>
 fn list_channel(port: u16, first: u16) -> Option<u8>
     ensures { result ≡ list_channel port first }
 {
-    if port < first {
-        return None;
+    match port.checked_sub(first)? {
+        4 => None,
+        place @ 0..8 => Some(place as u8),
+        _ => None,
     }
-    let place = port - first;
-    if place >= 8 {
-        return None;
+}
+
+// What only a read reaches: the status registers, all masks, the IRQ13 bits.
+fn shown_port(port: u16) -> Option<ReadPort>
+    ensures { result ≡ shown_port port }
+{
+    match port {
+        0x08 => Some(ReadPort::Status(Dma::One)),
+        0xD0 => Some(ReadPort::Status(Dma::Two)),
+        0x0F => Some(ReadPort::AllMasks(Dma::One)),
+        0xDE => Some(ReadPort::AllMasks(Dma::Two)),
+        0x40A => Some(ReadPort::Irq13),
+        _ => None,
     }
-    if place == 4 {
-        return None;
-    }
-    Some(place as u8)
 }
 
 // What a write to a port reaches, if anything.
 pub fn write_port(port: u16) -> Option<WritePort>
     ensures { result ≡ write_port port }
 {
-    if let Some((field, channel)) = field_port(port) {
-        return Some(WritePort::Field(field, channel));
-    }
-    if let Some((control, dma)) = control_port(port) {
-        return Some(WritePort::Control(control, dma));
-    }
-    match list_channel(port, 0x410) {
-        Some(channel) => Some(WritePort::ListCommand(channel)),
-        None => None,
-    }
+    field_port(port)
+        .map(|(field, channel)| WritePort::Field(field, channel))
+        .or_else(|| control_port(port).map(|(control, dma)| WritePort::Control(control, dma)))
+        .or_else(|| list_channel(port, 0x410).map(WritePort::ListCommand))
 }
 
 // What a read of a port reaches, if anything.
 pub fn read_port(port: u16) -> Option<ReadPort>
     ensures { result ≡ read_port port }
 {
-    if let Some((field, channel)) = field_port(port) {
-        return Some(ReadPort::Field(field, channel));
+    field_port(port)
+        .map(|(field, channel)| ReadPort::Field(field, channel))
+        .or_else(|| shown_port(port))
+        .or_else(|| list_channel(port, 0x418).map(ReadPort::ListStatus))
+}
+
+impl fmt::Display for Dma {
+    fn fmt<W: fmt::Write>(&self, f: &mut fmt::Formatter<W>) -> fmt::Result {
+        f.write_str(match self {
+            Dma::One => "DMA1",
+            Dma::Two => "DMA2",
+        })
     }
-    match port {
-        0x08 => return Some(ReadPort::Status(Dma::One)),
-        0xD0 => return Some(ReadPort::Status(Dma::Two)),
-        0x0F => return Some(ReadPort::AllMasks(Dma::One)),
-        0xDE => return Some(ReadPort::AllMasks(Dma::Two)),
-        0x40A => return Some(ReadPort::Irq13),
-        _ => {}
+}
+
+impl fmt::Display for Field {
+    fn fmt<W: fmt::Write>(&self, f: &mut fmt::Formatter<W>) -> fmt::Result {
+        match self {
+            Field::Address => f.write_str("address"),
+            Field::Count => f.write_str("count"),
+            Field::LowPage => f.write_str("low page"),
+            Field::HighPage => f.write_str("high page"),
+            Field::Table(byte) => write!(f, "table pointer, byte {byte}"),
+        }
     }
-    match list_channel(port, 0x418) {
-        Some(channel) => Some(ReadPort::ListStatus(channel)),
-        None => None,
+}
+
+impl fmt::Display for Control {
+    fn fmt<W: fmt::Write>(&self, f: &mut fmt::Formatter<W>) -> fmt::Result {
+        f.write_str(match self {
+            Control::Command => "command",
+            Control::Request => "request",
+            Control::Mask => "mask",
+            Control::Mode => "mode",
+            Control::ExtendedMode => "extended mode",
+            Control::ClearPointer => "clear byte pointer",
+            Control::MasterClear => "master clear",
+            Control::ClearMasks => "clear masks",
+            Control::AllMasks => "all masks",
+        })
     }
 }

@@ -7,7 +7,7 @@ ghost use Rattle.registers.specs.Channels.{list_refusal};
 ghost use Rattle.registers.specs.declared.ports.WritePort.TheVariants as target;
 
 use crate::file::Registers;
-use crate::mode::Mode;
+use crate::mode::{Mode, Service};
 use crate::ports::{Control, Dma, Field, WritePort, write_port};
 use crate::refusal::Refusal;
 
@@ -17,10 +17,8 @@ impl Registers {
         ensures state { self.new ≡ written port value self.old }
         ensures answer { shown result ≡ write_number self.old port value }
     {
-        match write_port(port) {
-            None => Err(Refusal::NoSuchPort),
-            Some(target) => self.write_at(target, value),
-        }
+        let target = write_port(port).ok_or(Refusal::NoSuchPort)?;
+        self.write_at(target, value)
     }
 
     fn write_at(&mut self, target: WritePort, value: u8) -> Result<(), Refusal>
@@ -80,10 +78,11 @@ impl Registers {
     {
         let channel = self.channel(c);
         channel.refuses_command(value)?;
+        let commanded = channel.with_list_command(value);
         if channel.begins_job(value) {
-            self.program(c, channel.with_list_command(value));
+            self.program(c, commanded);
         } else {
-            self.put(c, channel.with_list_command(value));
+            self.put(c, commanded);
         }
         Ok(())
     }
@@ -102,12 +101,7 @@ impl Registers {
     {
         let c = dma.picked(value);
         match control {
-            Control::Request => {
-                if c == 4 {
-                    return Err(Refusal::NoSuchChannel);
-                }
-                Ok(())
-            }
+            Control::Request if c == 4 => Err(Refusal::NoSuchChannel),
             Control::Mode => self.refuses_mode(c, value),
             Control::ExtendedMode => self.refuses_extended_mode(c, value),
             _ => Ok(()),
@@ -117,13 +111,9 @@ impl Registers {
     fn refuses_mode(&self, c: u8, value: u8) -> Result<(), Refusal>
         ensures { shown result ≡ mode_refusal self.now c value }
     {
-        if value / 64 != 3 {
-            if value / 4 % 4 == 3 {
-                return Err(Refusal::NoSuchSetting);
-            }
-            if c == 4 {
-                return Err(Refusal::NoSuchSetting);
-            }
+        let cascades = Service::from(value / 64) == Service::Cascade;
+        if !cascades && (value / 4 % 4 == 3 || c == 4) {
+            return Err(Refusal::NoSuchSetting);
         }
         self.idle_list(c)
     }
@@ -151,7 +141,7 @@ impl Registers {
             Control::Mode => self.program(c, channel.with_mode(Mode::from(value))),
             Control::ExtendedMode => self.program(c, channel.with_extended_mode(value)),
             Control::MasterClear => self.clear(dma),
-            _ => self.set_group(control, dma, value),
+            _ => self.group_mut(dma).set_control(control, value),
         }
     }
 
@@ -159,25 +149,9 @@ impl Registers {
     fn clear(&mut self, dma: Dma)
         ensures { self.new ≡ with_service (over_in dma self.old.service) (at_dma dma cleared_group self.old) }
     {
-        match dma {
-            Dma::One => self.first.clear(),
-            Dma::Two => self.second.clear(),
-        }
-        if let Some(c) = self.service {
-            let second = c >= 4;
-            if dma.is_second() == second {
-                self.service = None;
-            }
-        }
-    }
-
-    // What a group's register does to its group alone.
-    fn set_group(&mut self, control: Control, dma: Dma, value: u8)
-        ensures { self.new ≡ at_dma dma (group_written control value) self.old }
-    {
-        match dma {
-            Dma::One => self.first.set_control(control, value),
-            Dma::Two => self.second.set_control(control, value),
+        self.group_mut(dma).clear();
+        if self.service.is_some_and(|c| Dma::of(c) == dma) {
+            self.service = None;
         }
     }
 }
