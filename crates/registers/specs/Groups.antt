@@ -15,7 +15,7 @@ slot_of g n = slice_index_or g.channels (n % 4) blank
 
 -- the group with other channels
 abbrev pub with_channels : List Channel → Group → Group
-with_channels cs g = record { channels = cs; disabled = g.disabled; rotating = g.rotating; active_low = g.active_low; pointer = g.pointer; last = g.last }
+with_channels cs g = record g { channels = cs }
 
 -- the group with another channel at a slot
 abbrev pub with_slot : ℕ → Channel → Group → Group
@@ -38,25 +38,11 @@ fresh_group head tail = record {
 
 -- the command register: bit 2 disables, bit 4 rotates, bit 6 makes lines active low
 abbrev pub with_command : ℕ → Group → Group
-with_command v g = record {
-  channels = g.channels;
-  disabled = flag 4 v;
-  rotating = flag 16 v;
-  active_low = flag 64 v;
-  pointer = g.pointer;
-  last = g.last;
-}
+with_command v g = record g { disabled = flag 4 v; rotating = flag 16 v; active_low = flag 64 v }
 
 -- the byte pointer set
 abbrev pub with_pointer : Bool → Group → Group
-with_pointer high g = record {
-  channels = g.channels;
-  disabled = g.disabled;
-  rotating = g.rotating;
-  active_low = g.active_low;
-  pointer = record { high = high };
-  last = g.last;
-}
+with_pointer high g = record g { pointer = record { high = high } }
 
 -- the byte pointer flipped
 abbrev pub flipped : Group → Group

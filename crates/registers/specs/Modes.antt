@@ -37,13 +37,14 @@ mode_of v = record {
 abbrev pub command_of : ℕ → ListCommand
 command_of v = cond (v % 4 == 1) Start (cond (v % 4 == 2) Stop (cond (v % 4 == 3) Unknown Nothing))
 
--- whether a service is of that kind
+-- whether a service is cascade
 abbrev pub is_cascade : Service → Bool
 is_cascade Demand = false
 is_cascade Single = false
 is_cascade Block = false
 is_cascade Cascade = true
 
+-- whether a service is block
 abbrev pub is_block : Service → Bool
 is_block Demand = false
 is_block Single = false
