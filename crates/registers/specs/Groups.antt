@@ -25,16 +25,13 @@ with_slot n ch g = with_channels (slice_set g.channels (n % 4) ch) g
 abbrev pub each_slot : (Channel → Channel) → (Channel → Channel) → (Channel → Channel) → (Channel → Channel) → Group → Group
 each_slot f₀ f₁ f₂ f₃ g = with_channels (f₀ (slot_of g 0) ∷ f₁ (slot_of g 1) ∷ f₂ (slot_of g 2) ∷ f₃ (slot_of g 3) ∷ []) g
 
--- a new group: enabled, fixed priority, active high, low byte next; the first slot is looked at first
+-- a group of these channels at rest: enabled, fixed priority, active high, low byte next; the first slot is looked at first
+abbrev pub rest_group : List Channel → Group
+rest_group cs = record { channels = cs; disabled = false; rotating = false; active_low = false; pointer = record { high = false }; last = 3 }
+
+-- a new group: all four channels new, the first with an addressing of its own
 abbrev pub fresh_group : Addressing → Addressing → Group
-fresh_group head tail = record {
-  channels = fresh head ∷ fresh tail ∷ fresh tail ∷ fresh tail ∷ [];
-  disabled = false;
-  rotating = false;
-  active_low = false;
-  pointer = record { high = false };
-  last = 3;
-}
+fresh_group head tail = rest_group (fresh head ∷ fresh tail ∷ fresh tail ∷ fresh tail ∷ [])
 
 -- the command register: bit 2 disables, bit 4 rotates, bit 6 makes lines active low
 abbrev pub with_command : ℕ → Group → Group
@@ -62,14 +59,7 @@ without_terminals g = each_slot (with_terminal false) (with_terminal false) (wit
 
 -- master clear: as new, but for what a cleared channel keeps
 abbrev pub cleared_group : Group → Group
-cleared_group g = record {
-  channels = cleared (slot_of g 0) ∷ cleared (slot_of g 1) ∷ cleared (slot_of g 2) ∷ cleared (slot_of g 3) ∷ [];
-  disabled = false;
-  rotating = false;
-  active_low = false;
-  pointer = record { high = false };
-  last = 3;
-}
+cleared_group g = rest_group (cleared (slot_of g 0) ∷ cleared (slot_of g 1) ∷ cleared (slot_of g 2) ∷ cleared (slot_of g 3) ∷ [])
 
 -- bits is the number of the flags that f gives of the four slots and their channels, slot 0's as bit 0
 pub record Gathers (f : ℕ → Channel → Bool → Type 0) (g : Group) (bits : ℕ) : Type 0 where

@@ -30,13 +30,22 @@ pub struct Channel {
     pub list: List,
 }
 
-// A 16-bit register with one of its bytes replaced.
-fn put_byte(high: bool, value: u8, old: u16) -> u16
-    ensures { result ≡ put_byte high value old }
-{
-    let mut bytes = old.to_le_bytes();
-    bytes[usize::from(high)] = value;
-    u16::from_le_bytes(bytes)
+// A byte for one half of a 16-bit register.
+#[derive(Clone, Copy)]
+pub(crate) struct Half {
+    pub(crate) high: bool,
+    pub(crate) value: u8,
+}
+
+impl Half {
+    // The register with that half replaced.
+    fn put(self, old: u16) -> u16
+        ensures { result ≡ put_byte self.high self.value old }
+    {
+        let mut bytes = old.to_le_bytes();
+        bytes[usize::from(self.high)] = self.value;
+        u16::from_le_bytes(bytes)
+    }
 }
 
 // One byte of a 16-bit register.
@@ -62,10 +71,10 @@ impl Span {
     }
 
     // One byte of the address replaced, and the high page zeroed.
-    fn with_address(self, high: bool, value: u8) -> Span
-        ensures { result ≡ addressed high value self }
+    fn with_address(self, byte: Half) -> Span
+        ensures { result ≡ addressed byte.high byte.value self }
     {
-        let address = put_byte(high, value, self.place.address);
+        let address = byte.put(self.place.address);
         Span {
             place: Place {
                 address,
@@ -101,11 +110,11 @@ impl Span {
     }
 
     // One byte of the count replaced.
-    fn with_count(self, high: bool, value: u8) -> Span
-        ensures { result ≡ counted high value self }
+    fn with_count(self, byte: Half) -> Span
+        ensures { result ≡ counted byte.high byte.value self }
     {
         Span {
-            count: put_byte(high, value, self.count),
+            count: byte.put(self.count),
             ..self
         }
     }
@@ -132,24 +141,24 @@ impl Channel {
     }
 
     // An address byte, for base and current; it ends extended addressing.
-    pub(crate) fn with_address(self, high: bool, value: u8) -> Channel
-        ensures { result ≡ with_address high value self }
+    pub(crate) fn with_address(self, byte: Half) -> Channel
+        ensures { result ≡ with_address byte.high byte.value self }
     {
         Channel {
-            base: self.base.with_address(high, value),
-            current: self.current.with_address(high, value),
+            base: self.base.with_address(byte),
+            current: self.current.with_address(byte),
             extended: false,
             ..self
         }
     }
 
     // A count byte, for base and current.
-    pub(crate) fn with_count(self, high: bool, value: u8) -> Channel
-        ensures { result ≡ with_count high value self }
+    pub(crate) fn with_count(self, byte: Half) -> Channel
+        ensures { result ≡ with_count byte.high byte.value self }
     {
         Channel {
-            base: self.base.with_count(high, value),
-            current: self.current.with_count(high, value),
+            base: self.base.with_count(byte),
+            current: self.current.with_count(byte),
             ..self
         }
     }
@@ -182,6 +191,7 @@ impl Channel {
     pub(crate) fn with_extended_mode(self, value: u8) -> Channel
         ensures { result ≡ with_extended_mode value self }
     {
+        // Addressing is a type of `bus`, so it has no From here; its bits 2 and 3 are refused before.
         let addressing = if value / 4 % 4 == 0 {
             Addressing::Bytes
         } else {

@@ -1,6 +1,6 @@
 // A group of four channels with the registers that they share.
 ghost use Rattle.std.specs.Prelude.{◌≡◌, ◌<◌, ◌||◌, false};
-ghost use Rattle.registers.specs.Groups.{slot_of, with_slot, fresh_group, with_command, with_pointer, flipped, with_masks, with_lines, without_terminals, cleared_group, masks, irq13s, active, terminals, requests, status_of, group_written, Renews, Gathers};
+ghost use Rattle.registers.specs.Groups.{slot_of, with_slot, rest_group, fresh_group, with_command, with_pointer, flipped, with_masks, with_lines, without_terminals, cleared_group, masks, irq13s, active, terminals, requests, status_of, group_written, Renews, Gathers};
 
 use crate::channel::Channel;
 use crate::ports::Control;
@@ -31,8 +31,15 @@ impl Group {
     {
         let first = Channel::new(head);
         let other = Channel::new(tail);
+        Group::at_rest([first, other, other, other])
+    }
+
+    // A group of these channels, with nothing else set.
+    fn at_rest(channels: [Channel; 4]) -> Group
+        ensures { result ≡ rest_group channels }
+    {
         Group {
-            channels: [first, other, other, other],
+            channels,
             disabled: false,
             rotating: false,
             active_low: false,
@@ -122,21 +129,14 @@ impl Group {
     pub(crate) fn clear_terminals(&mut self)
         ensures { self.new ≡ without_terminals self.old }
     {
-        self.renew(0, Channel::with_terminal);
+        self.channels = self.channels.map(|channel| channel.with_terminal(false));
     }
 
     // Master clear.
     pub(crate) fn clear(&mut self)
         ensures { self.new ≡ cleared_group self.old }
     {
-        *self = Group {
-            channels: self.channels.map(Channel::cleared),
-            disabled: false,
-            rotating: false,
-            active_low: false,
-            pointer: BytePointer { high: false },
-            last: 3,
-        };
+        *self = Group::at_rest(self.channels.map(Channel::cleared));
     }
 
     // A flag of each slot and its channel as a number, slot 0's as bit 0.

@@ -6,6 +6,7 @@ ghost use Rattle.registers.specs.File.{channel_of, programmed, over_in, with_ser
 ghost use Rattle.registers.specs.Channels.{list_refusal};
 ghost use Rattle.registers.specs.declared.ports.WritePort.TheVariants as target;
 
+use crate::channel::Half;
 use crate::file::Registers;
 use crate::mode::{Mode, Service};
 use crate::ports::{Control, Dma, Field, WritePort, write_port};
@@ -55,14 +56,17 @@ impl Registers {
         ensures { self.new ≡ field_written field c value self.old }
     {
         let channel = self.channel(c);
-        let high = self.high_byte(c);
+        let byte = Half {
+            high: self.high_byte(c),
+            value,
+        };
         match field {
             Field::Address => {
-                self.program(c, channel.with_address(high, value));
+                self.program(c, channel.with_address(byte));
                 self.flip(c);
             }
             Field::Count => {
-                self.program(c, channel.with_count(high, value));
+                self.program(c, channel.with_count(byte));
                 self.flip(c);
             }
             Field::LowPage => self.program(c, channel.with_low(value)),
