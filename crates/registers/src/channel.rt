@@ -191,7 +191,7 @@ impl Channel {
     pub(crate) fn with_extended_mode(self, value: u8) -> Channel
         ensures { result ≡ with_extended_mode value self }
     {
-        // Addressing is a type of `bus`, so it has no From here; its bits 2 and 3 are refused before.
+        // Addressing is a type of `bus`, so no From<u8> can stand here; settings 2 and 3 are refused before this.
         let addressing = if value / 4 % 4 == 0 {
             Addressing::Bytes
         } else {

@@ -104,7 +104,7 @@ impl Group {
         ensures { Renews (F.post f) bits self.old self.new }
     {
         self.channels = [
-            f(self.slot(0), bits / 1 % 2 == 1),
+            f(self.slot(0), bits % 2 == 1),
             f(self.slot(1), bits / 2 % 2 == 1),
             f(self.slot(2), bits / 4 % 2 == 1),
             f(self.slot(3), bits / 8 % 2 == 1),

@@ -29,6 +29,7 @@ pub struct Entry {
     pub count: u16,
 }
 
+// Flags, and no Option of a list that runs: what they say stands in the status after the list is over.
 #[derive(Clone, Copy, PartialEq, Eq, Debug, Default)]
 pub struct List {
     pub pointer: u32,

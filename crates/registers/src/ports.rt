@@ -35,7 +35,7 @@ pub enum Control {
     AllMasks,
 }
 
-// What a write reaches.
+// What a write reaches. A struct of field and channel would only name them a second time: they are this variant's two fields.
 #[derive(Clone, Copy, PartialEq, Eq, Debug)]
 pub enum WritePort {
     Field(Field, u8),
@@ -52,6 +52,8 @@ pub enum ReadPort {
     AllMasks(Dma),
     Irq13,
 }
+
+// The maps are a line a port, as docs/registers.md lists them: a rule for some of the ports would be no plainer.
 
 // Addresses and counts.
 fn span_port(port: u16) -> Option<(Field, u8)>
@@ -99,12 +101,29 @@ fn page_port(port: u16) -> Option<(Field, u8)>
     }
 }
 
+// The channel at a place in a row of one for each channel; channel 4 has none.
+fn channel_at(place: u16) -> Option<u8>
+    ensures { result ≡ list_channel place 0 }
+{
+    match place {
+        0..=3 | 5..=7 => Some(place as u8),
+        _ => None,
+    }
+}
+
+// The channel of a register of which each channel but 4 has one, from a first port on.
+fn list_channel(port: u16, first: u16) -> Option<u8>
+    ensures { result ≡ list_channel port first }
+{
+    channel_at(port.checked_sub(first)?)
+}
+
 // The table pointers, four ports a channel.
 fn table_port(port: u16) -> Option<(Field, u8)>
     ensures { result ≡ table_port port }
 {
     let place = port.checked_sub(0x420)?;
-    let channel = list_channel(place / 4, 0)?;
+    let channel = channel_at(place / 4)?;
     Some((Field::Table((place % 4) as u8), channel))
 }
 
@@ -140,17 +159,6 @@ fn control_port(port: u16) -> Option<(Control, Dma)>
         0xDA => Some((Control::MasterClear, Dma::Two)),
         0xDC => Some((Control::ClearMasks, Dma::Two)),
         0xDE => Some((Control::AllMasks, Dma::Two)),
-        _ => None,
-    }
-}
-
-// The channel of a register of which each channel but 4 has one, from a first port on.
-fn list_channel(port: u16, first: u16) -> Option<u8>
-    ensures { result ≡ list_channel port first }
-{
-    match port.checked_sub(first)? {
-        4 => None,
-        place @ 0..8 => Some(place as u8),
         _ => None,
     }
 }
