@@ -1,6 +1,6 @@
 // One channel's registers, and what a driver's bytes make of them.
-ghost use Rattle.std.specs.Prelude.{◌≡◌, ◌%◌};
-ghost use Rattle.registers.specs.Channels.{blank, fresh, rest_span, addressed, low_paged, high_paged, counted, start_refusal, put_byte, byte_of, bytes_of, from_bytes, with_address, with_count, with_low, with_high, with_mode, with_extended_mode, with_line, with_mask, with_request, with_terminal, cleared, with_table_byte, with_list_command, list_refusal, list_begins, list_status, unfit, misplaced, halted, selected, bit, is_loaded};
+ghost use Rattle.std.specs.Prelude.{◌≡◌};
+ghost use Rattle.registers.specs.Channels.{fresh, rest_span, addressed, low_paged, high_paged, counted, start_refusal, put_byte, byte_of, with_address, with_count, with_low, with_high, with_extended_mode, cleared, with_table_byte, with_list_command, list_refusal, list_begins, unfit, halted};
 ghost use Rattle.registers.specs.Refusals.{shown};
 
 use crate::list::{List, ListCommand};
@@ -204,36 +204,6 @@ impl Channel {
         }
     }
 
-    pub(crate) fn with_line(self, line: bool) -> Channel
-        ensures { result ≡ with_line line self }
-    {
-        Channel { line, ..self }
-    }
-
-    pub(crate) fn with_mask(self, mask: bool) -> Channel
-        ensures { result ≡ with_mask mask self }
-    {
-        Channel { mask, ..self }
-    }
-
-    pub(crate) fn with_request(self, request: bool) -> Channel
-        ensures { result ≡ with_request request self }
-    {
-        Channel { request, ..self }
-    }
-
-    pub(crate) fn with_terminal(self, terminal: bool) -> Channel
-        ensures { result ≡ with_terminal terminal self }
-    {
-        Channel { terminal, ..self }
-    }
-
-    pub(crate) fn with_mode(self, mode: Mode) -> Channel
-        ensures { result ≡ with_mode mode self }
-    {
-        Channel { mode, ..self }
-    }
-
     // Master clear: line, registers, modes and the table pointer stay.
     pub(crate) fn cleared(self) -> Channel
         ensures { result ≡ cleared self }
@@ -253,7 +223,7 @@ impl Channel {
         ensures { result ≡ with_table_byte byte value self }
     {
         let mut bytes = self.list.pointer.to_le_bytes();
-        bytes[(byte % 4) as usize] = value;
+        bytes[usize::from(byte % 4)] = value;
         let pointer = u32::from_le_bytes(bytes);
         Channel {
             list: List {

@@ -52,14 +52,14 @@ impl Group {
     pub(crate) fn slot(&self, n: u8) -> Channel
         ensures { result ≡ slot_of self.now n }
     {
-        self.channels[(n % 4) as usize]
+        self.channels[usize::from(n % 4)]
     }
 
     // Another channel at a slot.
     pub(crate) fn put(&mut self, n: u8, channel: Channel)
         ensures { self.new ≡ with_slot n channel self.old }
     {
-        self.channels[(n % 4) as usize] = channel;
+        self.channels[usize::from(n % 4)] = channel;
     }
 
     // The command register.
@@ -115,21 +115,24 @@ impl Group {
     pub(crate) fn set_masks(&mut self, value: u8)
         ensures { self.new ≡ with_masks value self.old }
     {
-        self.renew(value, Channel::with_mask);
+        self.renew(value, |channel, mask| Channel { mask, ..channel });
     }
 
     // All four lines.
     pub(crate) fn set_lines(&mut self, bits: u8)
         ensures { self.new ≡ with_lines bits self.old }
     {
-        self.renew(bits, Channel::with_line);
+        self.renew(bits, |channel, line| Channel { line, ..channel });
     }
 
     // The terminal count bits cleared, as a read of the status register does.
     pub(crate) fn clear_terminals(&mut self)
         ensures { self.new ≡ without_terminals self.old }
     {
-        self.channels = self.channels.map(|channel| channel.with_terminal(false));
+        self.channels = self.channels.map(|channel| Channel {
+            terminal: false,
+            ..channel
+        });
     }
 
     // Master clear.

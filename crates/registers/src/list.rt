@@ -87,7 +87,7 @@ impl List {
     pub(crate) fn table_byte(self, byte: u8) -> u8
         ensures { result ≡ table_byte byte self }
     {
-        self.pointer.to_le_bytes()[(byte % 4) as usize]
+        self.pointer.to_le_bytes()[usize::from(byte % 4)]
     }
 
     // The list status register.

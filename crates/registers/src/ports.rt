@@ -2,8 +2,6 @@
 ghost use Rattle.std.specs.Prelude.{◌≡◌};
 ghost use Rattle.registers.specs.Ports.{span_port, page_port, table_port, field_port, control_port, list_channel, shown_port, write_port, read_port};
 
-use std::fmt;
-
 // One of the two groups of four channels.
 #[derive(Clone, Copy, PartialEq, Eq, Debug)]
 pub enum Dma {
@@ -195,41 +193,4 @@ pub fn read_port(port: u16) -> Option<ReadPort>
         .map(|(field, channel)| ReadPort::Field(field, channel))
         .or_else(|| shown_port(port))
         .or_else(|| list_channel(port, 0x418).map(ReadPort::ListStatus))
-}
-
-impl fmt::Display for Dma {
-    fn fmt<W: fmt::Write>(&self, f: &mut fmt::Formatter<W>) -> fmt::Result {
-        f.write_str(match self {
-            Dma::One => "DMA1",
-            Dma::Two => "DMA2",
-        })
-    }
-}
-
-impl fmt::Display for Field {
-    fn fmt<W: fmt::Write>(&self, f: &mut fmt::Formatter<W>) -> fmt::Result {
-        match self {
-            Field::Address => f.write_str("address"),
-            Field::Count => f.write_str("count"),
-            Field::LowPage => f.write_str("low page"),
-            Field::HighPage => f.write_str("high page"),
-            Field::Table(byte) => write!(f, "table pointer, byte {byte}"),
-        }
-    }
-}
-
-impl fmt::Display for Control {
-    fn fmt<W: fmt::Write>(&self, f: &mut fmt::Formatter<W>) -> fmt::Result {
-        f.write_str(match self {
-            Control::Command => "command",
-            Control::Request => "request",
-            Control::Mask => "mask",
-            Control::Mode => "mode",
-            Control::ExtendedMode => "extended mode",
-            Control::ClearPointer => "clear byte pointer",
-            Control::MasterClear => "master clear",
-            Control::ClearMasks => "clear masks",
-            Control::AllMasks => "all masks",
-        })
-    }
 }

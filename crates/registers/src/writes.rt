@@ -6,7 +6,7 @@ ghost use Rattle.registers.specs.File.{channel_of, programmed, over_in, with_ser
 ghost use Rattle.registers.specs.Channels.{list_refusal};
 ghost use Rattle.registers.specs.declared.ports.WritePort.TheVariants as target;
 
-use crate::channel::Half;
+use crate::channel::{Channel, Half};
 use crate::file::Registers;
 use crate::mode::{Mode, Service};
 use crate::ports::{Control, Dma, Field, WritePort, write_port};
@@ -140,9 +140,18 @@ impl Registers {
         let c = dma.picked(value);
         let channel = self.channel(c);
         match control {
-            Control::Request => self.put(c, channel.with_request(value / 4 % 2 == 1)),
-            Control::Mask => self.put(c, channel.with_mask(value / 4 % 2 == 1)),
-            Control::Mode => self.program(c, channel.with_mode(Mode::from(value))),
+            Control::Request => {
+                let request = value / 4 % 2 == 1;
+                self.put(c, Channel { request, ..channel });
+            },
+            Control::Mask => {
+                let mask = value / 4 % 2 == 1;
+                self.put(c, Channel { mask, ..channel });
+            },
+            Control::Mode => {
+                let mode = Mode::from(value);
+                self.program(c, Channel { mode, ..channel });
+            },
             Control::ExtendedMode => self.program(c, channel.with_extended_mode(value)),
             Control::MasterClear => self.clear(dma),
             _ => self.group_mut(dma).set_control(control, value),
