@@ -31,6 +31,7 @@ from_bytes bs = slice_index bs 0 + slice_index bs 1 * 256 + slice_index bs 2 * 6
 abbrev pub rest_place : Place
 rest_place = record { address = 0; low = 0; high = 0 }
 
+-- a span whose registers are all 0
 abbrev pub rest_span : Span
 rest_span = record { place = rest_place; count = 0 }
 
@@ -67,221 +68,71 @@ blank = record {
 
 -- a new channel: masked, all else 0 but the addressing
 abbrev pub fresh : Addressing → Channel
-fresh words = record {
-  base = rest_span;
-  current = rest_span;
-  extended = false;
-  mode = rest_mode;
-  addressing = words;
-  timing = 0;
-  line = false;
-  mask = true;
-  request = false;
-  terminal = false;
-  list = rest_list 0;
-}
+fresh words = record blank { addressing = words; mask = true }
 
 -- one byte of the address replaced, and the high page zeroed
 abbrev pub addressed : Bool → ℕ → Span → Span
-addressed high v x = record { place = record { address = put_byte high v x.place.address; low = x.place.low; high = 0 }; count = x.count }
+addressed high v x = record x { place = record (x.place) { address = put_byte high v x.place.address; high = 0 } }
 
 -- the low page replaced, and the high page zeroed
 abbrev pub low_paged : ℕ → Span → Span
-low_paged v x = record { place = record { address = x.place.address; low = v; high = 0 }; count = x.count }
+low_paged v x = record x { place = record (x.place) { low = v; high = 0 } }
 
 -- the high page replaced
 abbrev pub high_paged : ℕ → Span → Span
-high_paged v x = record { place = record { address = x.place.address; low = x.place.low; high = v }; count = x.count }
+high_paged v x = record x { place = record (x.place) { high = v } }
 
 -- one byte of the count replaced
 abbrev pub counted : Bool → ℕ → Span → Span
-counted high v x = record { place = x.place; count = put_byte high v x.count }
+counted high v x = record x { count = put_byte high v x.count }
 
 -- an address byte goes to base and current; addressing is no longer extended, and both high pages are 0
 abbrev pub with_address : Bool → ℕ → Channel → Channel
-with_address high v ch = record {
-  base = addressed high v ch.base;
-  current = addressed high v ch.current;
-  extended = false;
-  mode = ch.mode;
-  addressing = ch.addressing;
-  timing = ch.timing;
-  line = ch.line;
-  mask = ch.mask;
-  request = ch.request;
-  terminal = ch.terminal;
-  list = ch.list;
-}
+with_address high v ch = record ch { base = addressed high v ch.base; current = addressed high v ch.current; extended = false }
 
 -- a count byte goes to base and current
 abbrev pub with_count : Bool → ℕ → Channel → Channel
-with_count high v ch = record {
-  base = counted high v ch.base;
-  current = counted high v ch.current;
-  extended = ch.extended;
-  mode = ch.mode;
-  addressing = ch.addressing;
-  timing = ch.timing;
-  line = ch.line;
-  mask = ch.mask;
-  request = ch.request;
-  terminal = ch.terminal;
-  list = ch.list;
-}
+with_count high v ch = record ch { base = counted high v ch.base; current = counted high v ch.current }
 
 -- the low page goes to base and current; addressing is no longer extended, and both high pages are 0
 abbrev pub with_low : ℕ → Channel → Channel
-with_low v ch = record {
-  base = low_paged v ch.base;
-  current = low_paged v ch.current;
-  extended = false;
-  mode = ch.mode;
-  addressing = ch.addressing;
-  timing = ch.timing;
-  line = ch.line;
-  mask = ch.mask;
-  request = ch.request;
-  terminal = ch.terminal;
-  list = ch.list;
-}
+with_low v ch = record ch { base = low_paged v ch.base; current = low_paged v ch.current; extended = false }
 
 -- the high page goes to base and current, and addressing is extended
 abbrev pub with_high : ℕ → Channel → Channel
-with_high v ch = record {
-  base = high_paged v ch.base;
-  current = high_paged v ch.current;
-  extended = true;
-  mode = ch.mode;
-  addressing = ch.addressing;
-  timing = ch.timing;
-  line = ch.line;
-  mask = ch.mask;
-  request = ch.request;
-  terminal = ch.terminal;
-  list = ch.list;
-}
+with_high v ch = record ch { base = high_paged v ch.base; current = high_paged v ch.current; extended = true }
 
+-- another mode
 abbrev pub with_mode : Mode → Channel → Channel
-with_mode m ch = record {
-  base = ch.base;
-  current = ch.current;
-  extended = ch.extended;
-  mode = m;
-  addressing = ch.addressing;
-  timing = ch.timing;
-  line = ch.line;
-  mask = ch.mask;
-  request = ch.request;
-  terminal = ch.terminal;
-  list = ch.list;
-}
+with_mode m ch = record ch { mode = m }
 
 -- the extended mode's byte: bits 5:4 timing, 3:2 addressing
 abbrev pub with_extended_mode : ℕ → Channel → Channel
-with_extended_mode v ch = record {
-  base = ch.base;
-  current = ch.current;
-  extended = ch.extended;
-  mode = ch.mode;
-  addressing = cond (v / 4 % 4 == 0) Bytes Words;
-  timing = v / 16 % 4;
-  line = ch.line;
-  mask = ch.mask;
-  request = ch.request;
-  terminal = ch.terminal;
-  list = ch.list;
-}
+with_extended_mode v ch = record ch { addressing = cond (v / 4 % 4 == 0) Bytes Words; timing = v / 16 % 4 }
 
+-- another level of the line
 abbrev pub with_line : Bool → Channel → Channel
-with_line b ch = record {
-  base = ch.base;
-  current = ch.current;
-  extended = ch.extended;
-  mode = ch.mode;
-  addressing = ch.addressing;
-  timing = ch.timing;
-  line = b;
-  mask = ch.mask;
-  request = ch.request;
-  terminal = ch.terminal;
-  list = ch.list;
-}
+with_line b ch = record ch { line = b }
 
+-- another mask
 abbrev pub with_mask : Bool → Channel → Channel
-with_mask b ch = record {
-  base = ch.base;
-  current = ch.current;
-  extended = ch.extended;
-  mode = ch.mode;
-  addressing = ch.addressing;
-  timing = ch.timing;
-  line = ch.line;
-  mask = b;
-  request = ch.request;
-  terminal = ch.terminal;
-  list = ch.list;
-}
+with_mask b ch = record ch { mask = b }
 
+-- another request bit
 abbrev pub with_request : Bool → Channel → Channel
-with_request b ch = record {
-  base = ch.base;
-  current = ch.current;
-  extended = ch.extended;
-  mode = ch.mode;
-  addressing = ch.addressing;
-  timing = ch.timing;
-  line = ch.line;
-  mask = ch.mask;
-  request = b;
-  terminal = ch.terminal;
-  list = ch.list;
-}
+with_request b ch = record ch { request = b }
 
+-- another terminal count bit
 abbrev pub with_terminal : Bool → Channel → Channel
-with_terminal b ch = record {
-  base = ch.base;
-  current = ch.current;
-  extended = ch.extended;
-  mode = ch.mode;
-  addressing = ch.addressing;
-  timing = ch.timing;
-  line = ch.line;
-  mask = ch.mask;
-  request = ch.request;
-  terminal = b;
-  list = ch.list;
-}
+with_terminal b ch = record ch { terminal = b }
 
+-- another list
 abbrev pub with_list : Chain → Channel → Channel
-with_list l ch = record {
-  base = ch.base;
-  current = ch.current;
-  extended = ch.extended;
-  mode = ch.mode;
-  addressing = ch.addressing;
-  timing = ch.timing;
-  line = ch.line;
-  mask = ch.mask;
-  request = ch.request;
-  terminal = ch.terminal;
-  list = l;
-}
+with_list l ch = record ch { list = l }
 
 -- master clear: masked, no request, no terminal count, no list; line, registers, modes and table pointer stay
 abbrev pub cleared : Channel → Channel
-cleared ch = record {
-  base = ch.base;
-  current = ch.current;
-  extended = ch.extended;
-  mode = ch.mode;
-  addressing = ch.addressing;
-  timing = ch.timing;
-  line = ch.line;
-  mask = true;
-  request = false;
-  terminal = false;
-  list = rest_list ch.list.pointer;
-}
+cleared ch = record ch { mask = true; request = false; terminal = false; list = rest_list ch.list.pointer }
 
 -- byte k of the table pointer
 unfoldable pub table_byte : ℕ → Chain → ℕ
@@ -289,18 +140,7 @@ table_byte k l = slice_index (bytes_of l.pointer) (k % 4)
 
 -- byte k of the table pointer replaced
 unfoldable pub with_table_byte : ℕ → ℕ → Channel → Channel
-with_table_byte k v ch = let l = ch.list in with_list (record {
-  pointer = from_bytes (slice_set (bytes_of l.pointer) (k % 4) v);
-  next = l.next;
-  active = l.active;
-  loaded = l.loaded;
-  reserve = l.reserve;
-  ended = l.ended;
-  stopped = l.stopped;
-  entries = l.entries;
-  signal = l.signal;
-  irq13 = l.irq13;
-}) ch
+with_table_byte k v ch = let l = ch.list in with_list (record l { pointer = from_bytes (slice_set (bytes_of l.pointer) (k % 4) v) }) ch
 
 -- what the end of a list will signal: with bit 6 set, bit 7 selects EOP or IRQ13; else it stays
 abbrev pub selected : ℕ → Signal → Signal
@@ -308,63 +148,19 @@ selected v s = cond (flag 64 v) (cond (flag 128 v) Eop Irq13) s
 
 -- an accepted list command selects the signal and clears the IRQ13 bit
 abbrev pub commanded : ℕ → Chain → Chain
-commanded v l = record {
-  pointer = l.pointer;
-  next = l.next;
-  active = l.active;
-  loaded = l.loaded;
-  reserve = l.reserve;
-  ended = l.ended;
-  stopped = l.stopped;
-  entries = l.entries;
-  signal = selected v l.signal;
-  irq13 = false;
-}
+commanded v l = record l { signal = selected v l.signal; irq13 = false }
 
 -- Start: active, nothing loaded, no EOL, no Stop, no entry counted; the next place is the table pointer
 abbrev pub started : Chain → Chain
-started l = record {
-  pointer = l.pointer;
-  next = l.pointer;
-  active = true;
-  loaded = false;
-  reserve = None;
-  ended = false;
-  stopped = false;
-  entries = 0;
-  signal = l.signal;
-  irq13 = l.irq13;
-}
+started l = record l { next = l.pointer; active = true; loaded = false; reserve = None; ended = false; stopped = false; entries = 0 }
 
 -- Stop while something is loaded: no entry is fetched after it
 abbrev pub stopped_list : Chain → Chain
-stopped_list l = record {
-  pointer = l.pointer;
-  next = l.next;
-  active = l.active;
-  loaded = l.loaded;
-  reserve = l.reserve;
-  ended = l.ended;
-  stopped = true;
-  entries = l.entries;
-  signal = l.signal;
-  irq13 = l.irq13;
-}
+stopped_list l = record l { stopped = true }
 
 -- a list that is over
 abbrev pub inactive : Chain → Chain
-inactive l = record {
-  pointer = l.pointer;
-  next = l.next;
-  active = false;
-  loaded = l.loaded;
-  reserve = l.reserve;
-  ended = l.ended;
-  stopped = l.stopped;
-  entries = l.entries;
-  signal = l.signal;
-  irq13 = l.irq13;
-}
+inactive l = record l { active = false }
 
 -- Stop: an active list with nothing loaded ends with the mask set; with something loaded it is closed; an inactive one stays
 abbrev pub halted : Channel → Channel
@@ -377,11 +173,12 @@ abbrev pub with_list_command : ℕ → Channel → Channel
 with_list_command v ch = let done = with_list (commanded v ch.list) ch in
     cond (v % 4 == 1) (with_list (started done.list) done) (cond (v % 4 == 2) (halted done) done)
 
--- a list takes neither autoinitialise, nor cascade, nor shifted words
+-- whether an address register counts shifted words
 abbrev pub is_words : Addressing → Bool
 is_words Bytes = false
 is_words Words = true
 
+-- a list takes neither autoinitialise, nor cascade, nor shifted words
 abbrev pub unfit : Channel → Bool
 unfit ch = ch.mode.autoinitialise || (is_cascade ch.mode.service || is_words ch.addressing)
 
@@ -405,10 +202,12 @@ list_begins v ch = v % 4 == 1 || (v % 4 == 2 && (ch.list.active && not ch.list.l
 abbrev pub bit : Bool → ℕ
 bit b = cond b 1 0
 
+-- whether the end is signalled by IRQ13
 abbrev pub is_irq13 : Signal → Bool
 is_irq13 Eop = false
 is_irq13 Irq13 = true
 
+-- whether there is a value
 abbrev pub is_loaded : {X : Type 0} → Option X → Bool
 is_loaded None = false
 is_loaded (Some x) = true

@@ -23,34 +23,47 @@ use Rattle.registers.specs.Ports.{write_port, read_port}
 abbrev pub fresh_file : Registers
 fresh_file = record { first = fresh_group Bytes Bytes; second = fresh_group Bytes Words; service = None }
 
+-- a channel's group: One has channels 0 to 3, Two has 4 to 7
+abbrev pub dma_of : ℕ → Dma
+dma_of c = cond (nat_lt c 4) One Two
+
+-- a group's registers
+abbrev pub group_at : Registers → Dma → Group
+group_at k One = k.first
+group_at k Two = k.second
+
 -- channels 0 to 3 are of the first group, 4 to 7 of the second
 abbrev pub group_of : Registers → ℕ → Group
 group_of k c = cond (nat_lt c 4) k.first k.second
 
+-- a channel's registers
 abbrev pub channel_of : Registers → ℕ → Channel
 channel_of k c = slot_of (group_of k c) c
 
--- a change of one group
+-- a change of the first group
 abbrev pub at_first : (Group → Group) → Registers → Registers
-at_first f k = record { first = f k.first; second = k.second; service = k.service }
+at_first f k = record k { first = f k.first }
 
+-- a change of the second group
 abbrev pub at_second : (Group → Group) → Registers → Registers
-at_second f k = record { first = k.first; second = f k.second; service = k.service }
+at_second f k = record k { second = f k.second }
 
 -- a change of the group that a channel is of
 abbrev pub at_group_of : ℕ → (Group → Group) → Registers → Registers
 at_group_of c f k = cond (nat_lt c 4) (at_first f k) (at_second f k)
 
+-- a change of the group of that name
 abbrev pub at_dma : Dma → (Group → Group) → Registers → Registers
 at_dma One f k = at_first f k
 at_dma Two f k = at_second f k
 
+-- other registers for a channel
 abbrev pub with_channel : ℕ → Channel → Registers → Registers
 with_channel c ch k = at_group_of c (with_slot c ch) k
 
 -- the service that goes on, or none
 abbrev pub with_service : Option ℕ → Registers → Registers
-with_service s k = record { first = k.first; second = k.second; service = s }
+with_service s k = record k { service = s }
 
 -- a channel's service is over
 abbrev pub over : ℕ → Option ℕ → Option ℕ
@@ -65,11 +78,6 @@ programmed c ch k = with_service (over c k.service) (with_channel c ch k)
 abbrev pub picked : Dma → ℕ → ℕ
 picked One v = v % 4
 picked Two v = 4 + v % 4
-
--- the group of channels 4 to 7
-abbrev pub second : Dma → Bool
-second One = false
-second Two = true
 
 -- the list of channel c is active
 abbrev pub busy : Registers → ℕ → Bool
@@ -152,14 +160,16 @@ abbrev pub refusal_for : Registers → Option WritePort → ℕ → ℕ
 refusal_for k None v = 1
 refusal_for k (Some w) v = refusal_at k w v
 
+-- the registers after a write to a port; where there is none, nothing changes
 abbrev pub written_for : Option WritePort → ℕ → Registers → Registers
 written_for None v k = k
 written_for (Some w) v k = written_at w v k
 
--- THE WRITE of a byte to a port: the number that it answers, and the registers after
+-- THE WRITE of a byte to a port: the number that it answers
 abbrev pub write_number : Registers → ℕ → ℕ → ℕ
 write_number k port v = refusal_for k (write_port port) v
 
+-- and the registers after it
 abbrev pub written : ℕ → ℕ → Registers → Registers
 written port v k = written_for (write_port port) v k
 
@@ -179,6 +189,7 @@ field_read LowPage c k = k
 field_read HighPage c k = k
 field_read (Table n) c k = k
 
+-- what a port shows
 abbrev pub value_at : Registers → ReadPort → ℕ
 value_at k (read.Field f c) = field_value k f c
 value_at k (read.ListStatus c) = list_status (channel_of k c).list
@@ -196,31 +207,37 @@ read_at (read.Status d) k = at_dma d without_terminals k
 read_at (read.AllMasks d) k = k
 read_at read.Irq13 k = k
 
--- THE READ of a port: the number and the value that it answers, and the registers after; 1 and 0 where there is no such port to read
+-- the number that a read answers: 1 where there is no such port to read
 abbrev pub number_for : Option ReadPort → ℕ
 number_for None = 1
 number_for (Some p) = 0
 
+-- the value that it answers: 0 where there is no such port
 abbrev pub value_for : Registers → Option ReadPort → ℕ
 value_for k None = 0
 value_for k (Some p) = value_at k p
 
+-- the registers after it; where there is no such port, nothing changes
 abbrev pub read_for : Option ReadPort → Registers → Registers
 read_for None k = k
 read_for (Some p) k = read_at p k
 
+-- THE READ of a port: the number that it answers
 abbrev pub read_number : ℕ → ℕ
 read_number port = number_for (read_port port)
 
+-- the value that it answers
 abbrev pub read_value : Registers → ℕ → ℕ
 read_value k port = value_for k (read_port port)
 
+-- and the registers after it
 abbrev pub read_leaves : ℕ → Registers → Registers
 read_leaves port k = read_for (read_port port) k
 
--- THE LINES: bit c is channel c's level; with bit 4 set it is refused, 7, and no line changes
+-- THE LINES: bit c is channel c's level; with bit 4 set it is refused, 7
 abbrev pub lines_number : ℕ → ℕ
 lines_number bits = cond (flag 16 bits) 7 0
 
+-- and then no line changes
 abbrev pub lined : ℕ → Registers → Registers
 lined bits k = cond (flag 16 bits) k (at_second (with_lines (bits / 16)) (at_first (with_lines (bits % 16)) k))

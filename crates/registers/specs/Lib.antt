@@ -4,3 +4,4 @@ pub mod Channels
 pub mod Groups
 pub mod Ports
 pub mod File
+pub mod Lending

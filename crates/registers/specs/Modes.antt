@@ -5,6 +5,8 @@ use Rattle.registers.specs.declared.mode.Service.{Service}
 use Rattle.registers.specs.declared.mode.Service.TheVariants.{Demand, Single, Block, Cascade}
 use Rattle.registers.specs.declared.mode.Transfer.{Transfer}
 use Rattle.registers.specs.declared.mode.Transfer.TheVariants.{Verify, Write, Read}
+use Rattle.registers.specs.declared.list.ListCommand.{ListCommand}
+use Rattle.registers.specs.declared.list.ListCommand.TheVariants.{Nothing, Start, Stop, Unknown}
 
 -- the bit of v that has this weight
 abbrev pub flag : ℕ → ℕ → Bool
@@ -31,13 +33,18 @@ mode_of v = record {
   transfer = transfer_of (v / 4 % 4);
 }
 
--- whether a service is of that kind
+-- a list command's bits 1:0: 0 nothing, 1 Start, 2 Stop; there is no command 3
+abbrev pub command_of : ℕ → ListCommand
+command_of v = cond (v % 4 == 1) Start (cond (v % 4 == 2) Stop (cond (v % 4 == 3) Unknown Nothing))
+
+-- whether a service is cascade
 abbrev pub is_cascade : Service → Bool
 is_cascade Demand = false
 is_cascade Single = false
 is_cascade Block = false
 is_cascade Cascade = true
 
+-- whether a service is block
 abbrev pub is_block : Service → Bool
 is_block Demand = false
 is_block Single = false

@@ -90,14 +90,17 @@ control_port p =
 abbrev pub list_channel : ℕ → ℕ → Option ℕ
 list_channel p first = cond (nat_lt p first) None (cond (nat_lt (p - first) 8) (cond (p - first == 4) None (Some (p - first))) None)
 
+-- a field as what a write reaches
 abbrev pub written_field : Option (Field × ℕ) → Option WritePort
 written_field None = None
 written_field (Some f) = Some (write.Field f.0 f.1)
 
+-- a control as what a write reaches
 abbrev pub written_control : Option (Control × Dma) → Option WritePort
 written_control None = None
 written_control (Some x) = Some (write.Control x.0 x.1)
 
+-- a channel's list command as what a write reaches
 abbrev pub written_list : Option ℕ → Option WritePort
 written_list None = None
 written_list (Some c) = Some (write.ListCommand c)
@@ -106,10 +109,12 @@ written_list (Some c) = Some (write.ListCommand c)
 abbrev pub write_port : ℕ → Option WritePort
 write_port p = or_else (written_field (field_port p)) (or_else (written_control (control_port p)) (written_list (list_channel p 0x410)))
 
+-- a field as what a read reaches
 abbrev pub read_field : Option (Field × ℕ) → Option ReadPort
 read_field None = None
 read_field (Some f) = Some (read.Field f.0 f.1)
 
+-- a channel's list status as what a read reaches
 abbrev pub read_list : Option ℕ → Option ReadPort
 read_list None = None
 read_list (Some c) = Some (read.ListStatus c)

@@ -1,9 +1,9 @@
 // One channel's registers, and what a driver's bytes make of them.
-ghost use Rattle.std.specs.Prelude.{◌≡◌, ◌%◌};
-ghost use Rattle.registers.specs.Channels.{blank, fresh, rest_span, addressed, low_paged, high_paged, counted, start_refusal, put_byte, byte_of, bytes_of, from_bytes, with_address, with_count, with_low, with_high, with_mode, with_extended_mode, with_line, with_mask, with_request, with_terminal, cleared, with_table_byte, with_list_command, list_refusal, list_begins, list_status, unfit, misplaced, halted, selected, bit, is_loaded};
+ghost use Rattle.std.specs.Prelude.{◌≡◌};
+ghost use Rattle.registers.specs.Channels.{fresh, rest_span, addressed, low_paged, high_paged, counted, start_refusal, put_byte, byte_of, with_address, with_count, with_low, with_high, with_extended_mode, cleared, with_table_byte, with_list_command, list_refusal, list_begins, unfit, halted};
 ghost use Rattle.registers.specs.Refusals.{shown};
 
-use crate::list::List;
+use crate::list::{List, ListCommand};
 use crate::mode::{Mode, Service};
 use crate::refusal::Refusal;
 use bus::place::{Addressing, Place};
@@ -30,15 +30,21 @@ pub struct Channel {
     pub list: List,
 }
 
-// A 16-bit register with one of its bytes replaced.
-fn put_byte(high: bool, value: u8, old: u16) -> u16
-    ensures { result ≡ put_byte high value old }
-{
-    let [low, top] = old.to_le_bytes();
-    if high {
-        u16::from_le_bytes([low, value])
-    } else {
-        u16::from_le_bytes([value, top])
+// A byte for one half of a 16-bit register.
+#[derive(Clone, Copy)]
+pub(crate) struct Half {
+    pub(crate) high: bool,
+    pub(crate) value: u8,
+}
+
+impl Half {
+    // The register with that half replaced.
+    fn put(self, old: u16) -> u16
+        ensures { result ≡ put_byte self.high self.value old }
+    {
+        let mut bytes = old.to_le_bytes();
+        bytes[usize::from(self.high)] = self.value;
+        u16::from_le_bytes(bytes)
     }
 }
 
@@ -46,8 +52,7 @@ fn put_byte(high: bool, value: u8, old: u16) -> u16
 pub(crate) fn byte_of(high: bool, word: u16) -> u8
     ensures { result ≡ byte_of high word }
 {
-    let [low, top] = word.to_le_bytes();
-    if high { top } else { low }
+    word.to_le_bytes()[usize::from(high)]
 }
 
 impl Span {
@@ -66,55 +71,51 @@ impl Span {
     }
 
     // One byte of the address replaced, and the high page zeroed.
-    fn with_address(self, high: bool, value: u8) -> Span
-        ensures { result ≡ addressed high value self }
+    fn with_address(self, byte: Half) -> Span
+        ensures { result ≡ addressed byte.high byte.value self }
     {
-        let address = put_byte(high, value, self.place.address);
+        let address = byte.put(self.place.address);
         Span {
             place: Place {
                 address,
-                low: self.place.low,
                 high: 0,
+                ..self.place
             },
-            count: self.count,
+            ..self
         }
     }
 
     // The low page replaced, and the high page zeroed.
-    fn with_low(self, value: u8) -> Span
-        ensures { result ≡ low_paged value self }
+    fn with_low(self, low: u8) -> Span
+        ensures { result ≡ low_paged low self }
     {
         Span {
             place: Place {
-                address: self.place.address,
-                low: value,
+                low,
                 high: 0,
+                ..self.place
             },
-            count: self.count,
+            ..self
         }
     }
 
     // The high page replaced.
-    fn with_high(self, value: u8) -> Span
-        ensures { result ≡ high_paged value self }
+    fn with_high(self, high: u8) -> Span
+        ensures { result ≡ high_paged high self }
     {
         Span {
-            place: Place {
-                address: self.place.address,
-                low: self.place.low,
-                high: value,
-            },
-            count: self.count,
+            place: Place { high, ..self.place },
+            ..self
         }
     }
 
     // One byte of the count replaced.
-    fn with_count(self, high: bool, value: u8) -> Span
-        ensures { result ≡ counted high value self }
+    fn with_count(self, byte: Half) -> Span
+        ensures { result ≡ counted byte.high byte.value self }
     {
         Span {
-            place: self.place,
-            count: put_byte(high, value, self.count),
+            count: byte.put(self.count),
+            ..self
         }
     }
 }
@@ -128,7 +129,7 @@ impl Channel {
             base: Span::rest(),
             current: Span::rest(),
             extended: false,
-            mode: Mode::rest(),
+            mode: Mode::default(),
             addressing,
             timing: 0,
             line: false,
@@ -140,24 +141,24 @@ impl Channel {
     }
 
     // An address byte, for base and current; it ends extended addressing.
-    pub(crate) fn with_address(self, high: bool, value: u8) -> Channel
-        ensures { result ≡ with_address high value self }
+    pub(crate) fn with_address(self, byte: Half) -> Channel
+        ensures { result ≡ with_address byte.high byte.value self }
     {
         Channel {
-            base: self.base.with_address(high, value),
-            current: self.current.with_address(high, value),
+            base: self.base.with_address(byte),
+            current: self.current.with_address(byte),
             extended: false,
             ..self
         }
     }
 
     // A count byte, for base and current.
-    pub(crate) fn with_count(self, high: bool, value: u8) -> Channel
-        ensures { result ≡ with_count high value self }
+    pub(crate) fn with_count(self, byte: Half) -> Channel
+        ensures { result ≡ with_count byte.high byte.value self }
     {
         Channel {
-            base: self.base.with_count(high, value),
-            current: self.current.with_count(high, value),
+            base: self.base.with_count(byte),
+            current: self.current.with_count(byte),
             ..self
         }
     }
@@ -190,6 +191,7 @@ impl Channel {
     pub(crate) fn with_extended_mode(self, value: u8) -> Channel
         ensures { result ≡ with_extended_mode value self }
     {
+        // Addressing is a type of `bus`, so no From<u8> can stand here; settings 2 and 3 are refused before this.
         let addressing = if value / 4 % 4 == 0 {
             Addressing::Bytes
         } else {
@@ -200,36 +202,6 @@ impl Channel {
             timing: value / 16 % 4,
             ..self
         }
-    }
-
-    pub(crate) fn with_line(self, line: bool) -> Channel
-        ensures { result ≡ with_line line self }
-    {
-        Channel { line, ..self }
-    }
-
-    pub(crate) fn with_mask(self, mask: bool) -> Channel
-        ensures { result ≡ with_mask mask self }
-    {
-        Channel { mask, ..self }
-    }
-
-    pub(crate) fn with_request(self, request: bool) -> Channel
-        ensures { result ≡ with_request request self }
-    {
-        Channel { request, ..self }
-    }
-
-    pub(crate) fn with_terminal(self, terminal: bool) -> Channel
-        ensures { result ≡ with_terminal terminal self }
-    {
-        Channel { terminal, ..self }
-    }
-
-    pub(crate) fn with_mode(self, mode: Mode) -> Channel
-        ensures { result ≡ with_mode mode self }
-    {
-        Channel { mode, ..self }
     }
 
     // Master clear: line, registers, modes and the table pointer stay.
@@ -246,11 +218,12 @@ impl Channel {
     }
 
     // One byte of the table pointer.
+    #[tactic(auto, unfolding(crate::specs::Channels::with_table_byte))]
     pub(crate) fn with_table_byte(self, byte: u8, value: u8) -> Channel
         ensures { result ≡ with_table_byte byte value self }
     {
         let mut bytes = self.list.pointer.to_le_bytes();
-        bytes[(byte % 4) as usize] = value;
+        bytes[usize::from(byte % 4)] = value;
         let pointer = u32::from_le_bytes(bytes);
         Channel {
             list: List {
@@ -266,13 +239,13 @@ impl Channel {
         ensures { result ≡ with_list_command value self }
     {
         let list = self.list.commanded(value);
-        match value % 4 {
-            1 => Channel {
+        match ListCommand::from(value) {
+            ListCommand::Start => Channel {
                 list: list.started(),
                 ..self
             },
-            2 => Channel { list, ..self }.halted(),
-            _ => Channel { list, ..self },
+            ListCommand::Stop => Channel { list, ..self }.halted(),
+            ListCommand::Nothing | ListCommand::Unknown => Channel { list, ..self },
         }
     }
 
@@ -307,10 +280,10 @@ impl Channel {
     pub(crate) fn refuses_command(self, value: u8) -> Result<(), Refusal>
         ensures { shown result ≡ list_refusal value self }
     {
-        match value % 4 {
-            1 => self.refuses_start(),
-            3 => Err(Refusal::NoSuchSetting),
-            _ => Ok(()),
+        match ListCommand::from(value) {
+            ListCommand::Start => self.refuses_start(),
+            ListCommand::Unknown => Err(Refusal::NoSuchSetting),
+            ListCommand::Nothing | ListCommand::Stop => Ok(()),
         }
     }
 
@@ -324,10 +297,7 @@ impl Channel {
             return Err(Refusal::UnfitForList);
         }
         let pointer = self.list.pointer;
-        if pointer % 4 != 0 {
-            return Err(Refusal::BadTablePointer);
-        }
-        if pointer > 0xFFFF_8000 {
+        if pointer % 4 != 0 || pointer > 0xFFFF_8000 {
             return Err(Refusal::BadTablePointer);
         }
         Ok(())
@@ -337,24 +307,19 @@ impl Channel {
     fn unfit_for_list(self) -> bool
         ensures { result ≡ unfit self }
     {
-        if self.mode.autoinitialise {
-            return true;
-        }
-        match (self.mode.service, self.addressing) {
-            (Service::Cascade, _) => true,
-            (_, Addressing::Words) => true,
-            (_, Addressing::Bytes) => false,
-        }
+        self.mode.autoinitialise
+            || self.mode.service == Service::Cascade
+            || self.addressing == Addressing::Words
     }
 
     // Whether an accepted list command begins a job: Start, or a Stop that ends the list.
     pub(crate) fn begins_job(self, value: u8) -> bool
         ensures { result ≡ list_begins value self }
     {
-        match value % 4 {
-            1 => true,
-            2 => self.list.active && !self.list.loaded,
-            _ => false,
+        match ListCommand::from(value) {
+            ListCommand::Start => true,
+            ListCommand::Stop => self.list.active && !self.list.loaded,
+            ListCommand::Nothing | ListCommand::Unknown => false,
         }
     }
 }

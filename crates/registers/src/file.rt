@@ -1,7 +1,9 @@
 // The register file: a driver's writes and reads, and the lines of the devices.
 ghost use Rattle.std.specs.Prelude.{◌≡◌};
+ghost use Rattle.std.specs.Borrow.{sem};
+ghost use Rattle.registers.specs.Lending.{LendsGroup};
 ghost use Rattle.registers.specs.Groups.{flipped};
-ghost use Rattle.registers.specs.File.{fresh_file, channel_of, with_channel, at_group_of, with_service, programmed, over, picked, second, high_byte};
+ghost use Rattle.registers.specs.File.{fresh_file, channel_of, with_channel, at_group_of, group_at, dma_of, programmed, picked, high_byte};
 
 use crate::channel::Channel;
 use crate::group::Group;
@@ -17,14 +19,11 @@ pub struct Registers {
 }
 
 impl Dma {
-    // The group of channels 4 to 7.
-    pub(crate) fn is_second(self) -> bool
-        ensures { result ≡ second self }
+    // The group that a channel is of.
+    pub(crate) fn of(channel: u8) -> Dma
+        ensures { result ≡ dma_of channel }
     {
-        match self {
-            Dma::One => false,
-            Dma::Two => true,
-        }
+        if channel < 4 { Dma::One } else { Dma::Two }
     }
 
     // The channel that the two low bits of a byte pick.
@@ -50,26 +49,39 @@ impl Registers {
         }
     }
 
+    // A group's registers.
+    pub(crate) fn group(&self, dma: Dma) -> &Group
+        ensures { result.now ≡ group_at self.now dma }
+    {
+        match dma {
+            Dma::One => &self.first,
+            Dma::Two => &self.second,
+        }
+    }
+
+    // The same, to be changed.
+    pub(crate) fn group_mut(&mut self, dma: Dma) -> &mut Group
+        ensures* writes_back { sem 𝓛 (LendsGroup self.entry dma result) }
+        ensures value { result.now ≡ group_at self.old dma }
+    {
+        match dma {
+            Dma::One => &mut self.first,
+            Dma::Two => &mut self.second,
+        }
+    }
+
     // A channel's registers.
     pub fn channel(&self, c: u8) -> Channel
         ensures { result ≡ channel_of self.now c }
     {
-        if c < 4 {
-            self.first.slot(c)
-        } else {
-            self.second.slot(c)
-        }
+        self.group(Dma::of(c)).slot(c)
     }
 
     // Other registers for a channel.
     pub fn put(&mut self, c: u8, channel: Channel)
         ensures { self.new ≡ with_channel c channel self.old }
     {
-        if c < 4 {
-            self.first.put(c, channel);
-        } else {
-            self.second.put(c, channel);
-        }
+        self.group_mut(Dma::of(c)).put(c, channel);
     }
 
     // A channel begins a job with these registers, which ends its service.
@@ -77,17 +89,8 @@ impl Registers {
         ensures { self.new ≡ programmed c channel self.old }
     {
         self.put(c, channel);
-        self.end_service(c);
-    }
-
-    // The service of a channel is over.
-    fn end_service(&mut self, c: u8)
-        ensures { self.new ≡ with_service (over c self.old.service) self.old }
-    {
-        if let Some(d) = self.service {
-            if c == d {
-                self.service = None;
-            }
+        if self.service == Some(c) {
+            self.service = None;
         }
     }
 
@@ -95,21 +98,13 @@ impl Registers {
     pub(crate) fn high_byte(&self, c: u8) -> bool
         ensures { result ≡ high_byte self.now c }
     {
-        if c < 4 {
-            self.first.pointer.high
-        } else {
-            self.second.pointer.high
-        }
+        self.group(Dma::of(c)).pointer.high
     }
 
     // The byte pointer of a channel's group flipped.
     pub(crate) fn flip(&mut self, c: u8)
         ensures { self.new ≡ at_group_of c flipped self.old }
     {
-        if c < 4 {
-            self.first.flip();
-        } else {
-            self.second.flip();
-        }
+        self.group_mut(Dma::of(c)).flip();
     }
 }

@@ -1,10 +1,10 @@
 // A group of four channels with the registers that they share.
-ghost use Rattle.std.specs.Prelude.{◌≡◌, ◌<◌, false};
-ghost use Rattle.registers.specs.Groups.{slot_of, with_slot, fresh_group, with_command, with_pointer, flipped, with_masks, with_lines, without_terminals, cleared_group, nibble, masks, irq13s, active, requested, terminals, status_of, group_written};
-ghost use Rattle.registers.specs.Channels.{with_mask, with_line, with_terminal};
+ghost use Rattle.std.specs.Prelude.{◌≡◌, ◌<◌, ◌||◌, false};
+ghost use Rattle.registers.specs.Groups.{slot_of, with_slot, rest_group, fresh_group, with_command, with_pointer, flipped, with_masks, with_lines, without_terminals, cleared_group, masks, irq13s, active, terminals, requests, status_of, group_written, Renews, Gathers};
 
 use crate::channel::Channel;
 use crate::ports::Control;
+use arbiter::slots::mask;
 use bus::place::Addressing;
 
 // Which byte of a 16-bit register the next access moves.
@@ -24,14 +24,6 @@ pub struct Group {
     pub last: u8,
 }
 
-// Four bits as a number.
-fn nibble(a: bool, b: bool, c: bool, d: bool) -> u8
-    ensures value { result ≡ nibble a b c d }
-    ensures bound { result < 16 }
-{
-    u8::from(a) + u8::from(b) * 2 + u8::from(c) * 4 + u8::from(d) * 8
-}
-
 impl Group {
     // A new group; its first slot may have another addressing than the other three.
     pub(crate) fn new(head: Addressing, tail: Addressing) -> Group
@@ -39,8 +31,15 @@ impl Group {
     {
         let first = Channel::new(head);
         let other = Channel::new(tail);
+        Group::at_rest([first, other, other, other])
+    }
+
+    // A group of these channels, with nothing else set.
+    fn at_rest(channels: [Channel; 4]) -> Group
+        ensures { result ≡ rest_group channels }
+    {
         Group {
-            channels: [first, other, other, other],
+            channels,
             disabled: false,
             rotating: false,
             active_low: false,
@@ -53,14 +52,14 @@ impl Group {
     pub(crate) fn slot(&self, n: u8) -> Channel
         ensures { result ≡ slot_of self.now n }
     {
-        self.channels[(n % 4) as usize]
+        self.channels[usize::from(n % 4)]
     }
 
     // Another channel at a slot.
     pub(crate) fn put(&mut self, n: u8, channel: Channel)
         ensures { self.new ≡ with_slot n channel self.old }
     {
-        self.channels[(n % 4) as usize] = channel;
+        self.channels[usize::from(n % 4)] = channel;
     }
 
     // The command register.
@@ -99,57 +98,69 @@ impl Group {
         }
     }
 
+    // Each channel made anew, from what it was and its slot's bit of a byte.
+    fn renew<F: Fn(Channel, bool) -> Channel>(&mut self, bits: u8, f: F)
+        requires { F.IsAlwaysCallable f }
+        ensures { Renews (F.post f) bits self.old self.new }
+    {
+        self.channels = [
+            f(self.slot(0), bits % 2 == 1),
+            f(self.slot(1), bits / 2 % 2 == 1),
+            f(self.slot(2), bits / 4 % 2 == 1),
+            f(self.slot(3), bits / 8 % 2 == 1),
+        ];
+    }
+
     // All four masks.
     pub(crate) fn set_masks(&mut self, value: u8)
         ensures { self.new ≡ with_masks value self.old }
     {
-        self.channels = [
-            self.slot(0).with_mask(value / 1 % 2 == 1),
-            self.slot(1).with_mask(value / 2 % 2 == 1),
-            self.slot(2).with_mask(value / 4 % 2 == 1),
-            self.slot(3).with_mask(value / 8 % 2 == 1),
-        ];
+        self.renew(value, |channel, mask| Channel { mask, ..channel });
     }
 
     // All four lines.
     pub(crate) fn set_lines(&mut self, bits: u8)
         ensures { self.new ≡ with_lines bits self.old }
     {
-        self.channels = [
-            self.slot(0).with_line(bits / 1 % 2 == 1),
-            self.slot(1).with_line(bits / 2 % 2 == 1),
-            self.slot(2).with_line(bits / 4 % 2 == 1),
-            self.slot(3).with_line(bits / 8 % 2 == 1),
-        ];
+        self.renew(bits, |channel, line| Channel { line, ..channel });
+    }
+
+    // The terminal count bits cleared, as a read of the status register does.
+    pub(crate) fn clear_terminals(&mut self)
+        ensures { self.new ≡ without_terminals self.old }
+    {
+        self.channels = self.channels.map(|channel| Channel {
+            terminal: false,
+            ..channel
+        });
     }
 
     // Master clear.
     pub(crate) fn clear(&mut self)
         ensures { self.new ≡ cleared_group self.old }
     {
-        self.channels = [
-            self.slot(0).cleared(),
-            self.slot(1).cleared(),
-            self.slot(2).cleared(),
-            self.slot(3).cleared(),
-        ];
-        self.disabled = false;
-        self.rotating = false;
-        self.active_low = false;
-        self.pointer.high = false;
-        self.last = 3;
+        *self = Group::at_rest(self.channels.map(Channel::cleared));
+    }
+
+    // A flag of each slot and its channel as a number, slot 0's as bit 0.
+    fn bits<F: Fn(u8, Channel) -> bool>(&self, f: F) -> u8
+        requires { F.IsAlwaysCallable f }
+        ensures value { Gathers (F.post f) self.now result }
+        ensures bound { result < 16 }
+    {
+        mask(
+            f(0, self.slot(0)),
+            f(1, self.slot(1)),
+            f(2, self.slot(2)),
+            f(3, self.slot(3)),
+        )
     }
 
     // The masks as a number.
     pub(crate) fn masks(&self) -> u8
         ensures { result ≡ masks self.now }
     {
-        nibble(
-            self.slot(0).mask,
-            self.slot(1).mask,
-            self.slot(2).mask,
-            self.slot(3).mask,
-        )
+        self.bits(|_, channel| channel.mask)
     }
 
     // The IRQ13 bits as a number.
@@ -157,46 +168,14 @@ impl Group {
         ensures value { result ≡ irq13s self.now }
         ensures bound { result < 16 }
     {
-        nibble(
-            self.slot(0).list.irq13,
-            self.slot(1).list.irq13,
-            self.slot(2).list.irq13,
-            self.slot(3).list.irq13,
-        )
+        self.bits(|_, channel| channel.list.irq13)
     }
 
     // Whether a channel's line is active.
     pub fn active(&self, channel: Channel) -> bool
         ensures { result ≡ active self.now channel }
     {
-        if self.active_low {
-            !channel.line
-        } else {
-            channel.line
-        }
-    }
-
-    // Whether a slot's device or its request bit asks for service.
-    fn requested(&self, n: u8) -> bool
-        ensures { result ≡ requested self.now n }
-    {
-        let channel = self.slot(n);
-        self.active(channel) || channel.request
-    }
-
-    // The status register. The slot that cascades the other group shows 0.
-    pub(crate) fn status(&self, cascades: bool) -> u8
-        ensures { result ≡ status_of cascades self.now }
-    {
-        let counts = self.terminals(cascades);
-        let first = self.requested(0) && !cascades;
-        let requests = nibble(
-            first,
-            self.requested(1),
-            self.requested(2),
-            self.requested(3),
-        );
-        counts + requests * 16
+        channel.line != self.active_low
     }
 
     // The terminal count bits as a number.
@@ -204,24 +183,28 @@ impl Group {
         ensures value { result ≡ terminals cascades self.now }
         ensures bound { result < 16 }
     {
-        let first = self.slot(0).terminal && !cascades;
-        nibble(
-            first,
-            self.slot(1).terminal,
-            self.slot(2).terminal,
-            self.slot(3).terminal,
-        )
+        self.bits(|slot, channel| channel.terminal && (slot > 0 || !cascades))
     }
 
-    // The terminal count bits cleared, as a read of the status register does.
-    pub(crate) fn clear_terminals(&mut self)
-        ensures { self.new ≡ without_terminals self.old }
+    // Whether a channel's device or its request bit asks for service.
+    fn requested(&self, channel: Channel) -> bool
+        ensures { result ≡ (active self.now channel || channel.request) }
     {
-        self.channels = [
-            self.slot(0).with_terminal(false),
-            self.slot(1).with_terminal(false),
-            self.slot(2).with_terminal(false),
-            self.slot(3).with_terminal(false),
-        ];
+        self.active(channel) || channel.request
+    }
+
+    // The requests as a number.
+    fn requests(&self, cascades: bool) -> u8
+        ensures value { result ≡ requests cascades self.now }
+        ensures bound { result < 16 }
+    {
+        self.bits(|slot, channel| self.requested(channel) && (slot > 0 || !cascades))
+    }
+
+    // The status register. The slot that cascades the other group shows 0.
+    pub(crate) fn status(&self, cascades: bool) -> u8
+        ensures { result ≡ status_of cascades self.now }
+    {
+        self.terminals(cascades) + self.requests(cascades) * 16
     }
 }

@@ -6,6 +6,7 @@ pub mod file;
 pub mod group;
 pub mod list;
 pub mod mode;
+mod names;
 pub mod ports;
 pub mod reads;
 pub mod refusal;

@@ -1,10 +1,23 @@
 // The list record of a channel: where its table stands and what is loaded of it.
 ghost use Rattle.std.specs.Prelude.{◌≡◌};
+ghost use Rattle.registers.specs.Modes.{command_of};
 ghost use Rattle.registers.specs.Channels.{rest_list, commanded, started, list_status, selected, table_byte};
 
-// How the end of a list is signalled.
+use std::fmt;
+
+// What the two low bits of a list command ask for.
 #[derive(Clone, Copy, PartialEq, Eq, Debug)]
+pub enum ListCommand {
+    Nothing,
+    Start,
+    Stop,
+    Unknown,
+}
+
+// How the end of a list is signalled.
+#[derive(Clone, Copy, PartialEq, Eq, Debug, Default)]
 pub enum Signal {
+    #[default]
     Eop,
     Irq13,
 }
@@ -16,7 +29,8 @@ pub struct Entry {
     pub count: u16,
 }
 
-#[derive(Clone, Copy, PartialEq, Eq, Debug)]
+// Flags, and no Option of a list that runs: what they say stands in the status after the list is over.
+#[derive(Clone, Copy, PartialEq, Eq, Debug, Default)]
 pub struct List {
     pub pointer: u32,
     pub next: u32,
@@ -37,15 +51,7 @@ impl List {
     {
         List {
             pointer,
-            next: 0,
-            active: false,
-            loaded: false,
-            reserve: None,
-            ended: false,
-            stopped: false,
-            entries: 0,
-            signal: Signal::Eop,
-            irq13: false,
+            ..List::default()
         }
     }
 
@@ -77,28 +83,22 @@ impl List {
     }
 
     // One byte of the table pointer.
+    #[tactic(auto, unfolding(crate::specs::Channels::table_byte))]
     pub(crate) fn table_byte(self, byte: u8) -> u8
         ensures { result ≡ table_byte byte self }
     {
-        self.pointer.to_le_bytes()[(byte % 4) as usize]
+        self.pointer.to_le_bytes()[usize::from(byte % 4)]
     }
 
     // The list status register.
     pub(crate) fn status(self) -> u8
         ensures { result ≡ list_status self }
     {
-        let irq13 = match self.signal {
-            Signal::Eop => 0,
-            Signal::Irq13 => 32,
-        };
-        let reserve = match self.reserve {
-            None => 0,
-            Some(_) => 8,
-        };
-        let ended = if self.ended { 128 } else { 0 };
-        let loaded = if self.loaded { 4 } else { 0 };
-        let active = if self.active { 1 } else { 0 };
-        ended + irq13 + reserve + loaded + active
+        u8::from(self.ended) * 128
+            + u8::from(self.signal == Signal::Irq13) * 32
+            + u8::from(self.reserve.is_some()) * 8
+            + u8::from(self.loaded) * 4
+            + u8::from(self.active)
     }
 }
 
@@ -107,13 +107,34 @@ impl Signal {
     fn selected(self, value: u8) -> Signal
         ensures { result ≡ selected value self }
     {
-        if value / 64 % 2 == 0 {
-            return self;
+        match value / 64 {
+            1 => Signal::Irq13,
+            3 => Signal::Eop,
+            _ => self,
         }
-        if value / 128 % 2 == 1 {
-            Signal::Eop
-        } else {
-            Signal::Irq13
+    }
+}
+
+impl From<u8> for ListCommand {
+    ghost from_gives = { λ value command. command ≡ command_of value };
+
+    fn from(value: u8) -> ListCommand {
+        match value % 4 {
+            0 => ListCommand::Nothing,
+            1 => ListCommand::Start,
+            2 => ListCommand::Stop,
+            _ => ListCommand::Unknown,
         }
+    }
+}
+
+impl fmt::Display for ListCommand {
+    fn fmt<W: fmt::Write>(&self, f: &mut fmt::Formatter<W>) -> fmt::Result {
+        f.write_str(match self {
+            ListCommand::Nothing => "nothing",
+            ListCommand::Start => "Start",
+            ListCommand::Stop => "Stop",
+            ListCommand::Unknown => "no such command",
+        })
     }
 }

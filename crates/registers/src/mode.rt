@@ -1,10 +1,13 @@
 // The mode register of a channel, taken apart.
 ghost use Rattle.std.specs.Prelude.{◌≡◌};
-ghost use Rattle.registers.specs.Modes.{rest_mode, mode_of, service_of, transfer_of};
+ghost use Rattle.registers.specs.Modes.{mode_of, service_of, transfer_of};
+
+use std::fmt;
 
 // How a service goes on: while the request lasts, one transfer, to the end of the count, or by lending the bus.
-#[derive(Clone, Copy, PartialEq, Eq, Debug)]
+#[derive(Clone, Copy, PartialEq, Eq, Debug, Default)]
 pub enum Service {
+    #[default]
     Demand,
     Single,
     Block,
@@ -12,14 +15,16 @@ pub enum Service {
 }
 
 // Which way a unit goes; a write goes from the device to memory.
-#[derive(Clone, Copy, PartialEq, Eq, Debug)]
+#[derive(Clone, Copy, PartialEq, Eq, Debug, Default)]
 pub enum Transfer {
+    #[default]
     Verify,
     Write,
     Read,
 }
 
-#[derive(Clone, Copy, PartialEq, Eq, Debug)]
+// A new channel has the default.
+#[derive(Clone, Copy, PartialEq, Eq, Debug, Default)]
 pub struct Mode {
     pub service: Service,
     pub decrement: bool,
@@ -27,36 +32,24 @@ pub struct Mode {
     pub transfer: Transfer,
 }
 
-impl Mode {
-    // The mode of a new channel.
-    pub(crate) fn rest() -> Mode
-        ensures { result ≡ rest_mode }
-    {
-        Mode {
-            service: Service::Demand,
-            decrement: false,
-            autoinitialise: false,
-            transfer: Transfer::Verify,
-        }
-    }
+// The mode that a byte written to the mode register asks for.
+impl From<u8> for Mode {
+    ghost from_gives = { λ byte mode. mode ≡ mode_of byte };
 
-    // The mode that a byte written to the mode register asks for.
-    pub(crate) fn of(byte: u8) -> Mode
-        ensures { result ≡ mode_of byte }
-    {
+    fn from(byte: u8) -> Mode {
         Mode {
-            service: Service::of(byte / 64),
+            service: Service::from(byte / 64),
             decrement: byte / 32 % 2 == 1,
             autoinitialise: byte / 16 % 2 == 1,
-            transfer: Transfer::of(byte / 4 % 4),
+            transfer: Transfer::from(byte / 4 % 4),
         }
     }
 }
 
-impl Service {
-    fn of(code: u8) -> Service
-        ensures { result ≡ service_of code }
-    {
+impl From<u8> for Service {
+    ghost from_gives = { λ code service. service ≡ service_of code };
+
+    fn from(code: u8) -> Service {
         match code {
             0 => Service::Demand,
             1 => Service::Single,
@@ -66,14 +59,25 @@ impl Service {
     }
 }
 
-impl Transfer {
-    fn of(code: u8) -> Transfer
-        ensures { result ≡ transfer_of code }
-    {
+impl From<u8> for Transfer {
+    ghost from_gives = { λ code transfer. transfer ≡ transfer_of code };
+
+    fn from(code: u8) -> Transfer {
         match code {
             1 => Transfer::Write,
             2 => Transfer::Read,
             _ => Transfer::Verify,
         }
+    }
+}
+
+impl fmt::Display for Service {
+    fn fmt<W: fmt::Write>(&self, f: &mut fmt::Formatter<W>) -> fmt::Result {
+        f.write_str(match self {
+            Service::Demand => "demand",
+            Service::Single => "single",
+            Service::Block => "block",
+            Service::Cascade => "cascade",
+        })
     }
 }

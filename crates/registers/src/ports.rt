@@ -1,6 +1,6 @@
 // The port map: which register a port number reaches, in each direction.
 ghost use Rattle.std.specs.Prelude.{◌≡◌};
-ghost use Rattle.registers.specs.Ports.{span_port, page_port, table_port, field_port, control_port, list_channel, write_port, read_port};
+ghost use Rattle.registers.specs.Ports.{span_port, page_port, table_port, field_port, control_port, list_channel, shown_port, write_port, read_port};
 
 // One of the two groups of four channels.
 #[derive(Clone, Copy, PartialEq, Eq, Debug)]
@@ -33,7 +33,7 @@ pub enum Control {
     AllMasks,
 }
 
-// What a write reaches.
+// What a write reaches. A struct of field and channel would only name them a second time: they are this variant's two fields.
 #[derive(Clone, Copy, PartialEq, Eq, Debug)]
 pub enum WritePort {
     Field(Field, u8),
@@ -50,6 +50,8 @@ pub enum ReadPort {
     AllMasks(Dma),
     Irq13,
 }
+
+// The maps are a line a port, as docs/registers.md lists them: a rule for some of the ports would be no plainer.
 
 // Addresses and counts.
 fn span_port(port: u16) -> Option<(Field, u8)>
@@ -97,34 +99,39 @@ fn page_port(port: u16) -> Option<(Field, u8)>
     }
 }
 
+// The channel at a place in a row of one for each channel; channel 4 has none.
+fn channel_at(place: u16) -> Option<u8>
+    ensures { result ≡ list_channel place 0 }
+{
+    match place {
+        0..=3 | 5..=7 => Some(place as u8),
+        _ => None,
+    }
+}
+
+// The channel of a register of which each channel but 4 has one, from a first port on.
+fn list_channel(port: u16, first: u16) -> Option<u8>
+    ensures { result ≡ list_channel port first }
+{
+    channel_at(port.checked_sub(first)?)
+}
+
 // The table pointers, four ports a channel.
 fn table_port(port: u16) -> Option<(Field, u8)>
     ensures { result ≡ table_port port }
 {
-    if port < 0x420 {
-        return None;
-    }
-    if port >= 0x440 {
-        return None;
-    }
-    let place = port - 0x420;
-    if place / 4 == 4 {
-        return None;
-    }
-    Some((Field::Table((place % 4) as u8), (place / 4) as u8))
+    let place = port.checked_sub(0x420)?;
+    let channel = channel_at(place / 4)?;
+    Some((Field::Table((place % 4) as u8), channel))
 }
 
 // Every register of a channel that goes both ways.
 fn field_port(port: u16) -> Option<(Field, u8)>
     ensures { result ≡ field_port port }
 {
-    match span_port(port) {
-        Some(found) => Some(found),
-        None => match page_port(port) {
-            Some(found) => Some(found),
-            None => table_port(port),
-        },
-    }
+    span_port(port)
+        .or_else(|| page_port(port))
+        .or_else(|| table_port(port))
 }
 
 // A group's registers.
@@ -154,56 +161,36 @@ fn control_port(port: u16) -> Option<(Control, Dma)>
     }
 }
 
-// The channel of a register of which each channel but 4 has one, from a first port on.
-fn list_channel(port: u16, first: u16) -> Option<u8>
-    ensures { result ≡ list_channel port first }
+// What only a read reaches: the status registers, all masks, the IRQ13 bits.
+fn shown_port(port: u16) -> Option<ReadPort>
+    ensures { result ≡ shown_port port }
 {
-    if port < first {
-        return None;
+    match port {
+        0x08 => Some(ReadPort::Status(Dma::One)),
+        0xD0 => Some(ReadPort::Status(Dma::Two)),
+        0x0F => Some(ReadPort::AllMasks(Dma::One)),
+        0xDE => Some(ReadPort::AllMasks(Dma::Two)),
+        0x40A => Some(ReadPort::Irq13),
+        _ => None,
     }
-    let place = port - first;
-    if place >= 8 {
-        return None;
-    }
-    if place == 4 {
-        return None;
-    }
-    Some(place as u8)
 }
 
 // What a write to a port reaches, if anything.
 pub fn write_port(port: u16) -> Option<WritePort>
     ensures { result ≡ write_port port }
 {
-    if let Some((field, channel)) = field_port(port) {
-        return Some(WritePort::Field(field, channel));
-    }
-    if let Some((control, dma)) = control_port(port) {
-        return Some(WritePort::Control(control, dma));
-    }
-    match list_channel(port, 0x410) {
-        Some(channel) => Some(WritePort::ListCommand(channel)),
-        None => None,
-    }
+    field_port(port)
+        .map(|(field, channel)| WritePort::Field(field, channel))
+        .or_else(|| control_port(port).map(|(control, dma)| WritePort::Control(control, dma)))
+        .or_else(|| list_channel(port, 0x410).map(WritePort::ListCommand))
 }
 
 // What a read of a port reaches, if anything.
 pub fn read_port(port: u16) -> Option<ReadPort>
     ensures { result ≡ read_port port }
 {
-    if let Some((field, channel)) = field_port(port) {
-        return Some(ReadPort::Field(field, channel));
-    }
-    match port {
-        0x08 => return Some(ReadPort::Status(Dma::One)),
-        0xD0 => return Some(ReadPort::Status(Dma::Two)),
-        0x0F => return Some(ReadPort::AllMasks(Dma::One)),
-        0xDE => return Some(ReadPort::AllMasks(Dma::Two)),
-        0x40A => return Some(ReadPort::Irq13),
-        _ => {}
-    }
-    match list_channel(port, 0x418) {
-        Some(channel) => Some(ReadPort::ListStatus(channel)),
-        None => None,
-    }
+    field_port(port)
+        .map(|(field, channel)| ReadPort::Field(field, channel))
+        .or_else(|| shown_port(port))
+        .or_else(|| list_channel(port, 0x418).map(ReadPort::ListStatus))
 }

@@ -15,14 +15,10 @@ impl Registers {
         ensures answer { shown result ≡ read_number port }
         ensures value { value_of result ≡ read_value self.old port }
     {
-        match read_port(port) {
-            None => Err(Refusal::NoSuchPort),
-            Some(source) => {
-                let value = self.value_at(source);
-                self.leave(source);
-                Ok(value)
-            }
-        }
+        let source = read_port(port).ok_or(Refusal::NoSuchPort)?;
+        let value = self.value_at(source);
+        self.leave(source);
+        Ok(value)
     }
 
     fn value_at(&self, source: ReadPort) -> u8
@@ -31,10 +27,8 @@ impl Registers {
         match source {
             ReadPort::Field(field, c) => self.field_value(field, c),
             ReadPort::ListStatus(c) => self.channel(c).list.status(),
-            ReadPort::Status(Dma::One) => self.first.status(false),
-            ReadPort::Status(Dma::Two) => self.second.status(true),
-            ReadPort::AllMasks(Dma::One) => self.first.masks(),
-            ReadPort::AllMasks(Dma::Two) => self.second.masks(),
+            ReadPort::Status(dma) => self.group(dma).status(dma == Dma::Two),
+            ReadPort::AllMasks(dma) => self.group(dma).masks(),
             ReadPort::Irq13 => self.first.irq13s() + self.second.irq13s() * 16,
         }
     }
@@ -57,10 +51,8 @@ impl Registers {
         ensures { self.new ≡ read_at source self.old }
     {
         match source {
-            ReadPort::Field(Field::Address, c) => self.flip(c),
-            ReadPort::Field(Field::Count, c) => self.flip(c),
-            ReadPort::Status(Dma::One) => self.first.clear_terminals(),
-            ReadPort::Status(Dma::Two) => self.second.clear_terminals(),
+            ReadPort::Field(Field::Address | Field::Count, c) => self.flip(c),
+            ReadPort::Status(dma) => self.group_mut(dma).clear_terminals(),
             _ => {}
         }
     }

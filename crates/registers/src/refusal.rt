@@ -2,15 +2,19 @@
 ghost use Rattle.std.specs.Prelude.{◌≡◌};
 ghost use Rattle.registers.specs.Refusals.{number_of};
 
+use std::error::Error;
+use std::fmt;
+
+// Each refusal has its number.
 #[derive(Clone, Copy, PartialEq, Eq, Debug)]
 pub enum Refusal {
-    NoSuchPort,
-    NoSuchChannel,
-    NoSuchSetting,
-    ListActive,
-    UnfitForList,
-    BadTablePointer,
-    LineFour,
+    NoSuchPort = 1,
+    NoSuchChannel = 2,
+    NoSuchSetting = 3,
+    ListActive = 4,
+    UnfitForList = 5,
+    BadTablePointer = 6,
+    LineFour = 7,
 }
 
 impl Refusal {
@@ -18,14 +22,24 @@ impl Refusal {
     pub fn number(self) -> u8
         ensures { result ≡ number_of self }
     {
-        match self {
-            Refusal::NoSuchPort => 1,
-            Refusal::NoSuchChannel => 2,
-            Refusal::NoSuchSetting => 3,
-            Refusal::ListActive => 4,
-            Refusal::UnfitForList => 5,
-            Refusal::BadTablePointer => 6,
-            Refusal::LineFour => 7,
-        }
+        self as u8
     }
 }
+
+impl fmt::Display for Refusal {
+    fn fmt<W: fmt::Write>(&self, f: &mut fmt::Formatter<W>) -> fmt::Result {
+        f.write_str(match self {
+            Refusal::NoSuchPort => "there is no such port in that direction",
+            Refusal::NoSuchChannel => "there is no such channel",
+            Refusal::NoSuchSetting => "there is no such setting",
+            Refusal::ListActive => "the channel's list is active",
+            Refusal::UnfitForList => "no list under autoinitialise, cascade or shifted words",
+            Refusal::BadTablePointer => {
+                "the table pointer is no multiple of 4, or above FFFF8000h"
+            }
+            Refusal::LineFour => "channel 4 has no line",
+        })
+    }
+}
+
+impl Error for Refusal {}

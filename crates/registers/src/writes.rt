@@ -6,8 +6,9 @@ ghost use Rattle.registers.specs.File.{channel_of, programmed, over_in, with_ser
 ghost use Rattle.registers.specs.Channels.{list_refusal};
 ghost use Rattle.registers.specs.declared.ports.WritePort.TheVariants as target;
 
+use crate::channel::{Channel, Half};
 use crate::file::Registers;
-use crate::mode::Mode;
+use crate::mode::{Mode, Service};
 use crate::ports::{Control, Dma, Field, WritePort, write_port};
 use crate::refusal::Refusal;
 
@@ -17,10 +18,8 @@ impl Registers {
         ensures state { self.new ≡ written port value self.old }
         ensures answer { shown result ≡ write_number self.old port value }
     {
-        match write_port(port) {
-            None => Err(Refusal::NoSuchPort),
-            Some(target) => self.write_at(target, value),
-        }
+        let target = write_port(port).ok_or(Refusal::NoSuchPort)?;
+        self.write_at(target, value)
     }
 
     fn write_at(&mut self, target: WritePort, value: u8) -> Result<(), Refusal>
@@ -57,14 +56,17 @@ impl Registers {
         ensures { self.new ≡ field_written field c value self.old }
     {
         let channel = self.channel(c);
-        let high = self.high_byte(c);
+        let byte = Half {
+            high: self.high_byte(c),
+            value,
+        };
         match field {
             Field::Address => {
-                self.program(c, channel.with_address(high, value));
+                self.program(c, channel.with_address(byte));
                 self.flip(c);
             }
             Field::Count => {
-                self.program(c, channel.with_count(high, value));
+                self.program(c, channel.with_count(byte));
                 self.flip(c);
             }
             Field::LowPage => self.program(c, channel.with_low(value)),
@@ -80,10 +82,11 @@ impl Registers {
     {
         let channel = self.channel(c);
         channel.refuses_command(value)?;
+        let commanded = channel.with_list_command(value);
         if channel.begins_job(value) {
-            self.program(c, channel.with_list_command(value));
+            self.program(c, commanded);
         } else {
-            self.put(c, channel.with_list_command(value));
+            self.put(c, commanded);
         }
         Ok(())
     }
@@ -102,12 +105,7 @@ impl Registers {
     {
         let c = dma.picked(value);
         match control {
-            Control::Request => {
-                if c == 4 {
-                    return Err(Refusal::NoSuchChannel);
-                }
-                Ok(())
-            }
+            Control::Request if c == 4 => Err(Refusal::NoSuchChannel),
             Control::Mode => self.refuses_mode(c, value),
             Control::ExtendedMode => self.refuses_extended_mode(c, value),
             _ => Ok(()),
@@ -117,13 +115,9 @@ impl Registers {
     fn refuses_mode(&self, c: u8, value: u8) -> Result<(), Refusal>
         ensures { shown result ≡ mode_refusal self.now c value }
     {
-        if value / 64 != 3 {
-            if value / 4 % 4 == 3 {
-                return Err(Refusal::NoSuchSetting);
-            }
-            if c == 4 {
-                return Err(Refusal::NoSuchSetting);
-            }
+        let cascades = Service::from(value / 64) == Service::Cascade;
+        if !cascades && (value / 4 % 4 == 3 || c == 4) {
+            return Err(Refusal::NoSuchSetting);
         }
         self.idle_list(c)
     }
@@ -146,12 +140,21 @@ impl Registers {
         let c = dma.picked(value);
         let channel = self.channel(c);
         match control {
-            Control::Request => self.put(c, channel.with_request(value / 4 % 2 == 1)),
-            Control::Mask => self.put(c, channel.with_mask(value / 4 % 2 == 1)),
-            Control::Mode => self.program(c, channel.with_mode(Mode::of(value))),
+            Control::Request => {
+                let request = value / 4 % 2 == 1;
+                self.put(c, Channel { request, ..channel });
+            },
+            Control::Mask => {
+                let mask = value / 4 % 2 == 1;
+                self.put(c, Channel { mask, ..channel });
+            },
+            Control::Mode => {
+                let mode = Mode::from(value);
+                self.program(c, Channel { mode, ..channel });
+            },
             Control::ExtendedMode => self.program(c, channel.with_extended_mode(value)),
             Control::MasterClear => self.clear(dma),
-            _ => self.set_group(control, dma, value),
+            _ => self.group_mut(dma).set_control(control, value),
         }
     }
 
@@ -159,25 +162,9 @@ impl Registers {
     fn clear(&mut self, dma: Dma)
         ensures { self.new ≡ with_service (over_in dma self.old.service) (at_dma dma cleared_group self.old) }
     {
-        match dma {
-            Dma::One => self.first.clear(),
-            Dma::Two => self.second.clear(),
-        }
-        if let Some(c) = self.service {
-            let second = c >= 4;
-            if dma.is_second() == second {
-                self.service = None;
-            }
-        }
-    }
-
-    // What a group's register does to its group alone.
-    fn set_group(&mut self, control: Control, dma: Dma, value: u8)
-        ensures { self.new ≡ at_dma dma (group_written control value) self.old }
-    {
-        match dma {
-            Dma::One => self.first.set_control(control, value),
-            Dma::Two => self.second.set_control(control, value),
+        self.group_mut(dma).clear();
+        if self.service.is_some_and(|c| Dma::of(c) == dma) {
+            self.service = None;
         }
     }
 }

@@ -1,0 +1,40 @@
+// The names of ports' parts, as they are printed.
+use crate::ports::{Control, Dma, Field};
+use std::fmt;
+
+impl fmt::Display for Dma {
+    fn fmt<W: fmt::Write>(&self, f: &mut fmt::Formatter<W>) -> fmt::Result {
+        f.write_str(match self {
+            Dma::One => "DMA1",
+            Dma::Two => "DMA2",
+        })
+    }
+}
+
+impl fmt::Display for Field {
+    fn fmt<W: fmt::Write>(&self, f: &mut fmt::Formatter<W>) -> fmt::Result {
+        match self {
+            Field::Address => f.write_str("address"),
+            Field::Count => f.write_str("count"),
+            Field::LowPage => f.write_str("low page"),
+            Field::HighPage => f.write_str("high page"),
+            Field::Table(byte) => write!(f, "table pointer, byte {byte}"),
+        }
+    }
+}
+
+impl fmt::Display for Control {
+    fn fmt<W: fmt::Write>(&self, f: &mut fmt::Formatter<W>) -> fmt::Result {
+        f.write_str(match self {
+            Control::Command => "command",
+            Control::Request => "request",
+            Control::Mask => "mask",
+            Control::Mode => "mode",
+            Control::ExtendedMode => "extended mode",
+            Control::ClearPointer => "clear byte pointer",
+            Control::MasterClear => "master clear",
+            Control::ClearMasks => "clear masks",
+            Control::AllMasks => "all masks",
+        })
+    }
+}
