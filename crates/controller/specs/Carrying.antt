@@ -3,7 +3,8 @@ use Rattle.std.specs.Prelude.{ℕ, ◌+◌, ◌*◌, ◌/◌, ◌%◌, Bool, con
 use Rattle.bus.specs.declared.place.Addressing.{Addressing}
 use Rattle.bus.specs.declared.place.Addressing.TheVariants.{Bytes, Words}
 use Rattle.memory.specs.declared.kinds.Kind.{Kind}
-use Rattle.memory.specs.Bytes.{is_absent, is_read_only}
+use Rattle.memory.specs.declared.kinds.Kind.TheVariants.{Absent, ReadOnly, Writable}
+use Rattle.memory.specs.Bytes.{is_absent, is_read_only, is_writable}
 use Rattle.memory.specs.Stored.{stored}
 use Rattle.ports.specs.Units.{look_of, taken, give_of, added, used}
 use Rattle.registers.specs.declared.mode.Transfer.{Transfer}
@@ -15,6 +16,12 @@ use Rattle.controller.specs.Outside.{Outside}
 -- the address above; above the top is 0
 abbrev pub above : ℕ → ℕ
 above a = (a + 1) % 4294967296
+
+-- whether a kind is the one that is meant
+abbrev pub is_of_kind : Kind → Kind → Bool
+is_of_kind Absent = is_absent
+is_of_kind ReadOnly = is_read_only
+is_of_kind Writable = is_writable
 
 -- the first byte of a unit that is of a kind: of a word, the one at the address or the one above
 abbrev pub first_of_kind : (Kind → Bool) → (ℕ → Kind) → Addressing → ℕ → Option ℕ

@@ -18,6 +18,10 @@ outside k b w p f = record { kinds = k; bytes = b; waiting = w; kept = p; free =
 abbrev pub outside_of : {X Y : Type 0} → MemoryMeaning X → BankMeaning Y → X → Y → Outside
 outside_of m b x y = outside (m.kind_at x) (m.byte_at x) (b.waiting y) (b.kept y) (b.free y)
 
+-- another memory beside the same devices
+abbrev pub with_memory : {X : Type 0} → MemoryMeaning X → X → Outside → Outside
+with_memory m x o = outside (m.kind_at x) (m.byte_at x) o.waiting o.kept o.free
+
 -- s and r are what p says
 pub record Does {S R : Type 0} (p : S × R) (s : S) (r : R) : Type 0 where
   pub state : s ≡ p.0

@@ -3,7 +3,7 @@ ghost use Rattle.std.specs.Prelude.{◌≡◌};
 ghost use Rattle.controller.specs.Carrying.{named, above};
 ghost use Rattle.controller.specs.Fetching.{first_absent, fetched_byte, fetched_word, entry_at, fetch_of, filled};
 
-use crate::fault::{Cause, Fault};
+use crate::fault::{Fault, TableFault};
 use crate::passing::load_current;
 use memory::Memory;
 use registers::channel::Channel;
@@ -31,14 +31,11 @@ pub struct Fetched {
 fn read_byte<M: Memory>(memory: &M, channel: u8, place: u32) -> Result<u8, Fault>
     ensures { result ≡ fetched_byte (M.kind_at memory.now) (M.byte_at memory.now) channel place }
 {
-    match memory.read(place) {
-        Ok(value) => Ok(value),
-        Err(_) => Err(Fault {
-            cause: Cause::EntryAbsent,
-            channel,
-            address: place,
-        }),
-    }
+    memory.read(place).map_err(|_| Fault {
+        cause: TableFault::EntryAbsent.into(),
+        channel,
+        address: place,
+    })
 }
 
 // A word, lowest byte first.
@@ -83,7 +80,7 @@ pub(crate) fn fetch<M: Memory>(memory: &M, channel: u8, list: List) -> Result<Fe
 {
     if list.entries >= MOST_ENTRIES {
         return Err(Fault {
-            cause: Cause::TooManyEntries,
+            cause: TableFault::TooManyEntries.into(),
             channel,
             address: 0,
         });

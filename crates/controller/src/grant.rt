@@ -1,8 +1,9 @@
 // Grants of the bus to a bus master on a cascade channel.
 ghost use Rattle.std.specs.Prelude.{◌≡◌, IfOk, IfErr};
+ghost use Rattle.controller.specs.declared.grant.BusRefusal.TheVariants.{Memory};
 ghost use Rattle.controller.specs.Outside.{Outside, outside};
 ghost use Rattle.controller.specs.Steps.{state_of, with_bus};
-ghost use Rattle.controller.specs.Grants.{bus_number, seen_by, shown_bus, shown_release, byte_in, take_number, took_bus, out_to, holds, cycle_number, cycle_value, after_cycle, release_number, released};
+ghost use Rattle.controller.specs.Grants.{bus_number, shown_bus, shown_release, byte_in, take_number, took_bus, out_to, holds, cycle_number, cycle_value, after_cycle, release_number, released};
 
 use crate::controller::{Bus, Controller};
 use memory::{Memory, MemoryFault};
@@ -23,8 +24,15 @@ pub enum Cycle {
 pub enum BusRefusal {
     NotOffered,
     NotGranted,
-    Absent,
-    ReadOnly,
+    Memory(MemoryFault),
+}
+
+impl From<MemoryFault> for BusRefusal {
+    ghost from_gives = { λ fault r. r ≡ Memory fault };
+
+    fn from(fault: MemoryFault) -> BusRefusal {
+        BusRefusal::Memory(fault)
+    }
 }
 
 impl BusRefusal {
@@ -34,8 +42,7 @@ impl BusRefusal {
         match self {
             BusRefusal::NotOffered => 11,
             BusRefusal::NotGranted => 12,
-            BusRefusal::Absent => 21,
-            BusRefusal::ReadOnly => 22,
+            BusRefusal::Memory(fault) => fault.number(),
         }
     }
 }
@@ -46,17 +53,6 @@ impl Grant {
         ensures { result ≡ self.now.channel }
     {
         self.channel
-    }
-}
-
-// A memory's answer, as a bus master sees it.
-fn seen<T>(answer: Result<T, MemoryFault>) -> Result<T, BusRefusal>
-    ensures { result ≡ seen_by answer }
-{
-    match answer {
-        Ok(value) => Ok(value),
-        Err(MemoryFault::Absent) => Err(BusRefusal::Absent),
-        Err(MemoryFault::ReadOnly) => Err(BusRefusal::ReadOnly),
     }
 }
 
@@ -80,10 +76,7 @@ impl Controller {
     fn holds(&self, channel: u8) -> bool
         ensures { result ≡ holds self.now.bus channel }
     {
-        match self.bus {
-            Bus::Taken(c) => c == channel,
-            _ => false,
-        }
+        self.bus == Bus::Taken(channel)
     }
 
     // One byte read or written under a grant.
@@ -102,9 +95,9 @@ impl Controller {
             return Err(BusRefusal::NotGranted);
         }
         match cycle {
-            Cycle::Read { address } => seen(memory.read(address)),
+            Cycle::Read { address } => Ok(memory.read(address)?),
             Cycle::Write { address, byte } => {
-                seen(memory.write(address, byte))?;
+                memory.write(address, byte)?;
                 Ok(byte)
             }
         }
@@ -121,10 +114,8 @@ impl Controller {
         }
         let Grant { channel } = grant;
         self.bus = Bus::Home;
-        if let Some(c) = self.registers.service {
-            if channel == c {
-                self.registers.service = None;
-            }
+        if self.registers.service == Some(channel) {
+            self.registers.service = None;
         }
         Ok(())
     }

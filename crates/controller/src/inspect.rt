@@ -73,16 +73,14 @@ impl Controller {
         ensures answer { shown result ≡ inspect_number c }
         ensures value { seen_in result ≡ inspected self.old.registers c }
     {
-        if c > 7 {
-            return Err(Refusal::NoSuchChannel);
-        }
-        if c == 4 {
+        if c > 7 || c == 4 {
             return Err(Refusal::NoSuchChannel);
         }
         let span = self.registers.channel(c).current;
         if c < 4 {
-            return Ok(look(&mut self.registers.first.pointer, span));
+            Ok(look(&mut self.registers.first.pointer, span))
+        } else {
+            Ok(look(&mut self.registers.second.pointer, span))
         }
-        Ok(look(&mut self.registers.second.pointer, span))
     }
 }
