@@ -42,17 +42,14 @@ fn read_byte<M: Memory>(memory: &M, channel: u8, place: u32) -> Result<u8, Fault
 fn read_word<M: Memory>(memory: &M, channel: u8, start: u32) -> Result<Word, Fault>
     ensures { result ≡ fetched_word (M.kind_at memory.now) (M.byte_at memory.now) channel start }
 {
+    let mut bytes = [0; 4];
     let mut place = start;
-    let a = read_byte(memory, channel, place)?;
-    place = place.wrapping_add(1);
-    let b = read_byte(memory, channel, place)?;
-    place = place.wrapping_add(1);
-    let c = read_byte(memory, channel, place)?;
-    place = place.wrapping_add(1);
-    let d = read_byte(memory, channel, place)?;
-    place = place.wrapping_add(1);
+    for byte in &mut bytes {
+        *byte = read_byte(memory, channel, place)?;
+        place = place.wrapping_add(1);
+    }
     Ok(Word {
-        value: u32::from_le_bytes([a, b, c, d]),
+        value: u32::from_le_bytes(bytes),
         next: place,
     })
 }
