@@ -1,8 +1,9 @@
 // One unit between a device and memory.
 ghost use Rattle.std.specs.Prelude.{◌≡◌, Ok};
 ghost use Rattle.memory.specs.Faults.{memory_number};
+ghost use Rattle.registers.specs.declared.mode.Transfer.TheVariants.{Read, Write};
 ghost use Rattle.controller.specs.Outside.{outside_of, Does};
-ghost use Rattle.controller.specs.Carrying.{and_then, named, is_of_kind, first_of_kind, presence, writability, width, offered, stored_unit, read_unit, take_in, wanted, give_out, carried};
+ghost use Rattle.controller.specs.Carrying.{and_then, named, is_of_kind, first_of_kind, presence, writability, width, offered, stored_unit, read_unit, carried};
 
 use crate::fault::{Cause, Fault};
 use crate::target::Target;
@@ -101,7 +102,7 @@ fn carry_in<M: Memory, B: PortBank>(
     bank: &mut B,
     target: Target,
 ) -> Result<u16, Fault>
-    ensures does { Does (take_in (outside_of M.Memory B.PortBank memory.old bank.old) target.channel target.addressing target.address (offered (outside_of M.Memory B.PortBank memory.old bank.old) target.channel target.addressing target.address)) (outside_of M.Memory B.PortBank memory.new bank.new) result }
+    ensures does { Does (carried Write (outside_of M.Memory B.PortBank memory.old bank.old) target.channel target.addressing target.address) (outside_of M.Memory B.PortBank memory.new bank.new) result }
     ensures lenders { M.fixed memory.new ≡ M.fixed memory.old }
 {
     let unit = offer(memory, bank, target)?;
@@ -132,7 +133,7 @@ fn load<M: Memory>(memory: &M, target: Target) -> Result<u16, Fault>
 
 // A unit from memory to a device.
 fn carry_out<M: Memory, B: PortBank>(memory: &M, bank: &mut B, target: Target) -> Result<u16, Fault>
-    ensures { Does (give_out (outside_of M.Memory B.PortBank memory.now bank.old) target.channel (wanted (outside_of M.Memory B.PortBank memory.now bank.old) target.channel target.addressing target.address)) (outside_of M.Memory B.PortBank memory.now bank.new) result }
+    ensures { Does (carried Read (outside_of M.Memory B.PortBank memory.now bank.old) target.channel target.addressing target.address) (outside_of M.Memory B.PortBank memory.now bank.new) result }
 {
     let unit = load(memory, target)?;
     bank.give(target.channel, unit)

@@ -1,7 +1,7 @@
 // Grants of the bus to a bus master on a cascade channel.
 ghost use Rattle.std.specs.Prelude.{◌≡◌, IfOk, IfErr};
 ghost use Rattle.controller.specs.declared.grant.BusRefusal.TheVariants.{Memory};
-ghost use Rattle.controller.specs.Outside.{Outside, outside};
+ghost use Rattle.controller.specs.Outside.{Outside, with_memory};
 ghost use Rattle.controller.specs.Steps.{state_of, with_bus};
 ghost use Rattle.controller.specs.Grants.{bus_number, shown_bus, shown_release, byte_in, take_number, took_bus, out_to, holds, cycle_number, cycle_value, after_cycle, release_number, released};
 
@@ -86,9 +86,9 @@ impl Controller {
         memory: &mut M,
         cycle: Cycle,
     ) -> Result<u8, BusRefusal>
-        ensures state { (o : Outside) → o.kinds ≡ M.kind_at memory.old → o.bytes ≡ M.byte_at memory.old → state_of self.now (outside (M.kind_at memory.new) (M.byte_at memory.new) o.waiting o.kept o.free) ≡ after_cycle grant.now.channel cycle (state_of self.now o) }
-        ensures answer { (o : Outside) → o.kinds ≡ M.kind_at memory.old → shown_bus result ≡ cycle_number (state_of self.now o) grant.now.channel cycle }
-        ensures value { (o : Outside) → o.kinds ≡ M.kind_at memory.old → o.bytes ≡ M.byte_at memory.old → byte_in result ≡ cycle_value (state_of self.now o) grant.now.channel cycle }
+        ensures state { (o : Outside) → state_of self.now (with_memory M.Memory memory.new o) ≡ after_cycle grant.now.channel cycle (state_of self.now (with_memory M.Memory memory.old o)) }
+        ensures answer { (o : Outside) → shown_bus result ≡ cycle_number (state_of self.now (with_memory M.Memory memory.old o)) grant.now.channel cycle }
+        ensures value { (o : Outside) → byte_in result ≡ cycle_value (state_of self.now (with_memory M.Memory memory.old o)) grant.now.channel cycle }
         ensures lenders { M.fixed memory.new ≡ M.fixed memory.old }
     {
         if !self.holds(grant.channel) {
