@@ -51,6 +51,7 @@ abbrev pub width : ℕ → Addressing → ℕ → ℕ → Result ℕ Fault
 width c Bytes a u = cond (nat_lt u 256) (Ok u) (Err (fault_of 34 c a))
 width c Words a u = Ok u
 
+-- a unit that a device answers, if it fits
 abbrev pub fitting : ℕ → Addressing → ℕ → Result ℕ Fault → Result ℕ Fault
 fitting c m a (Ok u) = width c m a u
 fitting c m a (Err e) = Err e
@@ -74,11 +75,12 @@ abbrev pub take_in : Outside → ℕ → Addressing → ℕ → Result ℕ Fault
 take_in o c m a (Ok u) = (record { kinds = o.kinds; bytes = stored_unit m o.bytes a u; waiting = taken c o.waiting; kept = o.kept; free = o.free }, Ok u)
 take_in o c m a (Err e) = (o, Err e)
 
--- the unit that goes to the device: what memory shows, once the device has a place
+-- a unit, once a check has passed
 abbrev pub with_unit : ℕ → Result (Unit {0}) Fault → Result ℕ Fault
 with_unit u (Ok x) = Ok u
 with_unit u (Err e) = Err e
 
+-- the unit that goes to the device: what memory shows, once the device has a place
 abbrev pub wanted : Outside → ℕ → Addressing → ℕ → Result ℕ Fault
 wanted o c m a = and_then (presence o.kinds c m a) (with_unit (read_unit m o.bytes a) (at_port c a (give_of c o.free)))
 

@@ -42,6 +42,7 @@ take_number Home = 11
 take_number (Out c) = 0
 take_number (Taken c) = 11
 
+-- where the bus is after it
 abbrev pub took_bus : Bus → Bus
 took_bus Home = Home
 took_bus (Out c) = Taken c
@@ -90,6 +91,7 @@ abbrev pub cycled : Cycle → Outside → Outside
 cycled (Read a) o = o
 cycled (Write a b) o = record { kinds = o.kinds; bytes = written (o.kinds a) o.bytes a b; waiting = o.waiting; kept = o.kept; free = o.free }
 
+-- the state after a cycle under a grant
 abbrev pub after_cycle : ℕ → Cycle → State → State
 after_cycle g x s = cond (holds s.bus g) (with_world (cycled x s.world) s) s
 
@@ -97,5 +99,6 @@ after_cycle g x s = cond (holds s.bus g) (with_world (cycled x s.world) s) s
 abbrev pub release_number : State → ℕ → ℕ
 release_number s g = cond (holds s.bus g) 0 12
 
+-- the state after a release
 abbrev pub released : ℕ → State → State
 released g s = cond (holds s.bus g) (with_bus Home (with_registers (with_service (over g s.registers.service) s.registers) s)) s

@@ -4,6 +4,7 @@ use Rattle.memory.specs.declared.kinds.Kind.{Kind}
 use Rattle.memory.specs.declared.layer.Memory.{Ghosts as MemoryMeaning}
 use Rattle.ports.specs.declared.bank.PortBank.{Ghosts as BankMeaning}
 
+-- each by its address or its channel
 pub record Outside : Type 0 where
   pub kinds : ℕ → Kind
   pub bytes : ℕ → ℕ
@@ -11,6 +12,7 @@ pub record Outside : Type 0 where
   pub kept : ℕ → List ℕ
   pub free : ℕ → ℕ
 
+-- the five together
 abbrev pub outside : (ℕ → Kind) → (ℕ → ℕ) → (ℕ → List ℕ) → (ℕ → List ℕ) → (ℕ → ℕ) → Outside
 outside k b w p f = record { kinds = k; bytes = b; waiting = w; kept = p; free = f }
 

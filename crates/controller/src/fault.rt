@@ -72,25 +72,25 @@ impl Cause {
 }
 
 impl From<MemoryFault> for Cause {
-    ghost from_gives = { λ fault r. r ≡ Memory fault };
+    ghost from_gives = { λ refusal r. r ≡ Memory refusal };
 
-    fn from(fault: MemoryFault) -> Cause {
-        Cause::Memory(fault)
+    fn from(refusal: MemoryFault) -> Cause {
+        Cause::Memory(refusal)
     }
 }
 
 impl From<PortFault> for Cause {
-    ghost from_gives = { λ fault r. r ≡ Port fault };
+    ghost from_gives = { λ refusal r. r ≡ Port refusal };
 
-    fn from(fault: PortFault) -> Cause {
-        Cause::Port(fault)
+    fn from(refusal: PortFault) -> Cause {
+        Cause::Port(refusal)
     }
 }
 
 impl From<TableFault> for Cause {
-    ghost from_gives = { λ fault r. r ≡ Table fault };
+    ghost from_gives = { λ refusal r. r ≡ Table refusal };
 
-    fn from(fault: TableFault) -> Cause {
-        Cause::Table(fault)
+    fn from(refusal: TableFault) -> Cause {
+        Cause::Table(refusal)
     }
 }

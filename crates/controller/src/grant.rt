@@ -2,7 +2,7 @@
 ghost use Rattle.std.specs.Prelude.{◌≡◌, IfOk, IfErr};
 ghost use Rattle.controller.specs.declared.grant.BusRefusal.TheVariants.{Memory};
 ghost use Rattle.controller.specs.Outside.{Outside, with_memory};
-ghost use Rattle.controller.specs.Steps.{state_of, with_bus};
+ghost use Rattle.controller.specs.Steps.{Becomes, state_of, with_bus};
 ghost use Rattle.controller.specs.Grants.{bus_number, shown_bus, shown_release, byte_in, take_number, took_bus, out_to, holds, cycle_number, cycle_value, after_cycle, release_number, released};
 
 use crate::controller::{Bus, Controller};
@@ -28,10 +28,10 @@ pub enum BusRefusal {
 }
 
 impl From<MemoryFault> for BusRefusal {
-    ghost from_gives = { λ fault r. r ≡ Memory fault };
+    ghost from_gives = { λ refusal r. r ≡ Memory refusal };
 
-    fn from(fault: MemoryFault) -> BusRefusal {
-        BusRefusal::Memory(fault)
+    fn from(refusal: MemoryFault) -> BusRefusal {
+        BusRefusal::Memory(refusal)
     }
 }
 
@@ -59,7 +59,7 @@ impl Grant {
 impl Controller {
     // Takes the bus that is out; the grant is for the channel that it is out to.
     pub fn take(&mut self) -> Result<Grant, BusRefusal>
-        ensures state { (o : Outside) → state_of self.new o ≡ with_bus (took_bus self.old.bus) (state_of self.old o) }
+        ensures state { Becomes self.old self.new (with_bus (took_bus self.old.bus)) }
         ensures answer { shown_bus result ≡ take_number self.old.bus }
         ensures grant { IfOk result (λ g. g.channel ≡ out_to self.old.bus) }
     {
@@ -105,7 +105,7 @@ impl Controller {
 
     // Gives the bus back, which ends the service; a grant that does not hold is handed back.
     pub fn release(&mut self, grant: Grant) -> Result<(), Grant>
-        ensures state { (o : Outside) → state_of self.new o ≡ released grant.channel (state_of self.old o) }
+        ensures state { Becomes self.old self.new (released grant.channel) }
         ensures answer { (o : Outside) → shown_release result ≡ release_number (state_of self.old o) grant.channel }
         ensures back { IfErr result (λ g. g ≡ grant) }
     {

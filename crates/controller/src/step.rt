@@ -1,7 +1,7 @@
 // A step: one thing done.
 ghost use Rattle.std.specs.Prelude.{◌≡◌};
 ghost use Rattle.controller.specs.Outside.{Outside, outside_of, with_memory, Does};
-ghost use Rattle.controller.specs.Steps.{state_of, with_registers, choice_of, begun, transfer_of, fetch_step, service_of, settled, serve, ahead_of, choose_of, ongoing, step_of};
+ghost use Rattle.controller.specs.Steps.{Becomes, state_of, with_registers, choice_of, begun, transfer_of, fetch_step, service_of, settled, serve, ahead_of, choose_of, ongoing, step_of};
 ghost use Rattle.controller.specs.Asking.{first_fetching};
 
 use crate::asking::{asks, first_fetching, goes_on};
@@ -157,7 +157,7 @@ impl Controller {
 
     // A choice begins a service.
     fn begin(&mut self, choice: Choice)
-        ensures { (o : Outside) → state_of self.new o ≡ with_registers (begun choice self.old.registers) (state_of self.old o) }
+        ensures { Becomes self.old self.new (with_registers (begun choice self.old.registers)) }
     {
         if let Some(slot) = choice.first {
             self.registers.first.last = slot;
