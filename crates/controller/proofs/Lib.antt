@@ -1,1 +1,2 @@
 mod Chosen
+mod Reading

@@ -14,10 +14,11 @@ use Rattle.controller.specs.Passing.{closed}
 abbrev pub wants : Group → Channel → Bool
 wants g ch = (active g ch && not ch.mask) || (ch.request && is_block ch.mode.service)
 
--- the second group, and through its first slot, channel 4, the first group, may have the bus
+-- the second group may have the bus
 abbrev pub second_open : Registers → Bool
 second_open k = not k.second.disabled
 
+-- and through its first slot, channel 4, the first group
 abbrev pub first_open : Registers → Bool
 first_open k = not k.first.disabled && (second_open k && not (slot_of k.second 0).mask)
 

@@ -3,7 +3,8 @@ use Rattle.std.specs.Prelude.{ℕ, ◌+◌, ◌*◌, ◌/◌, ◌%◌, Bool, con
 use Rattle.bus.specs.declared.place.Addressing.{Addressing}
 use Rattle.bus.specs.declared.place.Addressing.TheVariants.{Bytes, Words}
 use Rattle.memory.specs.declared.kinds.Kind.{Kind}
-use Rattle.memory.specs.Bytes.{is_absent, is_read_only}
+use Rattle.memory.specs.declared.kinds.Kind.TheVariants.{Absent, ReadOnly, Writable}
+use Rattle.memory.specs.Bytes.{is_absent, is_read_only, is_writable}
 use Rattle.memory.specs.Stored.{stored}
 use Rattle.ports.specs.Units.{look_of, taken, give_of, added, used}
 use Rattle.registers.specs.declared.mode.Transfer.{Transfer}
@@ -15,6 +16,12 @@ use Rattle.controller.specs.Outside.{Outside}
 -- the address above; above the top is 0
 abbrev pub above : ℕ → ℕ
 above a = (a + 1) % 4294967296
+
+-- whether a kind is the one that is meant
+abbrev pub is_of_kind : Kind → Kind → Bool
+is_of_kind Absent = is_absent
+is_of_kind ReadOnly = is_read_only
+is_of_kind Writable = is_writable
 
 -- the first byte of a unit that is of a kind: of a word, the one at the address or the one above
 abbrev pub first_of_kind : (Kind → Bool) → (ℕ → Kind) → Addressing → ℕ → Option ℕ
@@ -44,6 +51,7 @@ abbrev pub width : ℕ → Addressing → ℕ → ℕ → Result ℕ Fault
 width c Bytes a u = cond (nat_lt u 256) (Ok u) (Err (fault_of 34 c a))
 width c Words a u = Ok u
 
+-- a unit that a device answers, if it fits
 abbrev pub fitting : ℕ → Addressing → ℕ → Result ℕ Fault → Result ℕ Fault
 fitting c m a (Ok u) = width c m a u
 fitting c m a (Err e) = Err e
@@ -67,11 +75,12 @@ abbrev pub take_in : Outside → ℕ → Addressing → ℕ → Result ℕ Fault
 take_in o c m a (Ok u) = (record { kinds = o.kinds; bytes = stored_unit m o.bytes a u; waiting = taken c o.waiting; kept = o.kept; free = o.free }, Ok u)
 take_in o c m a (Err e) = (o, Err e)
 
--- the unit that goes to the device: what memory shows, once the device has a place
+-- a unit, once a check has passed
 abbrev pub with_unit : ℕ → Result (Unit {0}) Fault → Result ℕ Fault
 with_unit u (Ok x) = Ok u
 with_unit u (Err e) = Err e
 
+-- the unit that goes to the device: what memory shows, once the device has a place
 abbrev pub wanted : Outside → ℕ → Addressing → ℕ → Result ℕ Fault
 wanted o c m a = and_then (presence o.kinds c m a) (with_unit (read_unit m o.bytes a) (at_port c a (give_of c o.free)))
 

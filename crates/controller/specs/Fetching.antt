@@ -33,6 +33,7 @@ first_absent kinds (x ∷ xs) = cond (is_absent (kinds x)) (Some x) (first_absen
 abbrev pub word_of : (ℕ → ℕ) → ℕ → ℕ
 word_of f a = f a + f (above a) * 256 + f (above (above a)) * 65536 + f (above (above (above a))) * 16777216
 
+-- a word, once a check has passed
 abbrev pub with_word : Word → Result (Unit {0}) Fault → Result Word Fault
 with_word w (Ok u) = Ok w
 with_word w (Err e) = Err e
@@ -45,10 +46,12 @@ fetched_word kinds f c a = with_word (record { value = word_of f a; next = after
 abbrev pub entry_of : ℕ → ℕ → ℕ → Fetched
 entry_of address v next = record { entry = record { address = address; count = v % 65536 }; last = nat_le 2147483648 v; next = next }
 
+-- the second word, if it is fetched, completes the entry
 abbrev pub paired : Word → Result Word Fault → Result Fetched Fault
 paired w (Ok v) = Ok (entry_of w.value v.value v.next)
 paired w (Err e) = Err e
 
+-- the first word, if it is fetched, leads to the second
 abbrev pub entry_from : (ℕ → Kind) → (ℕ → ℕ) → ℕ → Result Word Fault → Result Fetched Fault
 entry_from kinds f c (Ok w) = paired w (fetched_word kinds f c w.next)
 entry_from kinds f c (Err e) = Err e

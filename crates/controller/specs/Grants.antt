@@ -2,9 +2,8 @@
 use Rattle.std.specs.Prelude.{ℕ, Bool, false, cond, Ok, Err, Result, ◌==◌}
 use Rattle.memory.specs.declared.kinds.Kind.{Kind}
 use Rattle.memory.specs.declared.kinds.Kind.TheVariants.{Absent, ReadOnly, Writable}
-use Rattle.memory.specs.declared.kinds.MemoryFault.{MemoryFault}
-use Rattle.memory.specs.declared.kinds.MemoryFault.TheVariants as memory
 use Rattle.memory.specs.Bytes.{written}
+use Rattle.memory.specs.Faults.{memory_number}
 use Rattle.registers.specs.File.{over, with_service}
 use Rattle.controller.specs.declared.controller.Bus.{Bus}
 use Rattle.controller.specs.declared.controller.Bus.TheVariants.{Home, Out, Taken}
@@ -16,18 +15,11 @@ use Rattle.controller.specs.declared.grant.BusRefusal.TheVariants as bus
 use Rattle.controller.specs.Outside.{Outside}
 use Rattle.controller.specs.Steps.{State, with_bus, with_registers, with_world}
 
--- each refusal of a bus master has its number
+-- each refusal of a bus master has its number: that of the memory where it is the memory that refuses
 abbrev pub bus_number : BusRefusal → ℕ
 bus_number bus.NotOffered = 11
 bus_number bus.NotGranted = 12
-bus_number bus.Absent = 21
-bus_number bus.ReadOnly = 22
-
--- a memory's answer, as a bus master sees it
-abbrev pub seen_by : {X : Type 0} → Result X MemoryFault → Result X BusRefusal
-seen_by (Ok x) = Ok x
-seen_by (Err memory.Absent) = Err bus.Absent
-seen_by (Err memory.ReadOnly) = Err bus.ReadOnly
+bus_number (bus.Memory e) = memory_number e
 
 -- the number that an answer shows: 0 where the call is accepted
 abbrev pub shown_bus : {X : Type 0} → Result X BusRefusal → ℕ
@@ -50,6 +42,7 @@ take_number Home = 11
 take_number (Out c) = 0
 take_number (Taken c) = 11
 
+-- where the bus is after it
 abbrev pub took_bus : Bus → Bus
 took_bus Home = Home
 took_bus (Out c) = Taken c
@@ -98,6 +91,7 @@ abbrev pub cycled : Cycle → Outside → Outside
 cycled (Read a) o = o
 cycled (Write a b) o = record { kinds = o.kinds; bytes = written (o.kinds a) o.bytes a b; waiting = o.waiting; kept = o.kept; free = o.free }
 
+-- the state after a cycle under a grant
 abbrev pub after_cycle : ℕ → Cycle → State → State
 after_cycle g x s = cond (holds s.bus g) (with_world (cycled x s.world) s) s
 
@@ -105,5 +99,6 @@ after_cycle g x s = cond (holds s.bus g) (with_world (cycled x s.world) s) s
 abbrev pub release_number : State → ℕ → ℕ
 release_number s g = cond (holds s.bus g) 0 12
 
+-- the state after a release
 abbrev pub released : ℕ → State → State
 released g s = cond (holds s.bus g) (with_bus Home (with_registers (with_service (over g s.registers.service) s.registers) s)) s

@@ -30,6 +30,7 @@ less_one n = cond (n == 0) 65535 (n - 1)
 abbrev pub stepped : Channel → Span
 stepped ch = record { place = moved_place (course_of ch) ch.current.place; count = less_one ch.current.count }
 
+-- other current registers
 abbrev pub with_current : Span → Channel → Channel
 with_current x ch = record {
   base = ch.base;

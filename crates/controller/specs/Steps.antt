@@ -1,5 +1,5 @@
 -- A step: one thing done, and what it answers.
-use Rattle.std.specs.Prelude.{ℕ, Bool, false, cond, not, ◌&&◌, Some, None, Ok, Err, Option, Result}
+use Rattle.std.specs.Prelude.{◌≡◌, ℕ, Bool, false, cond, not, ◌&&◌, Some, None, Ok, Err, Option, Result}
 use Rattle.std.specs.Option.{unwrap_or}
 use Rattle.arbiter.specs.declared.groups.Side.{Side}
 use Rattle.arbiter.specs.declared.groups.Choice.{Choice}
@@ -29,17 +29,25 @@ pub record State : Type 0 where
   pub bus : Bus
   pub world : Outside
 
+-- the state of a controller that works on o
 abbrev pub state_of : Controller → Outside → State
 state_of k o = record { registers = k.registers; bus = k.bus; world = o }
 
+-- other registers
 abbrev pub with_registers : Registers → State → State
 with_registers k s = record { registers = k; bus = s.bus; world = s.world }
 
+-- another memory and other devices
 abbrev pub with_world : Outside → State → State
 with_world o s = record { registers = s.registers; bus = s.bus; world = o }
 
+-- the bus elsewhere
 abbrev pub with_bus : Bus → State → State
 with_bus b s = record { registers = s.registers; bus = b; world = s.world }
+
+-- whatever it works on, a controller's state becomes what f makes of it
+abbrev pub Becomes : Controller → Controller → (State → State) → Type 0
+Becomes old new f = (o : Outside) → state_of new o ≡ f (state_of old o)
 
 -- a new controller has the bus
 abbrev pub fresh : Outside → State
@@ -49,6 +57,7 @@ fresh o = record { registers = fresh_file; bus = Home; world = o }
 abbrev pub first_side : Registers → Side
 first_side k = record { asking = mask_of (asks k 0) (asks k 1) (asks k 2) (asks k 3); rotating = k.first.rotating; last = k.first.last }
 
+-- in the second group channel 4 never asks
 abbrev pub second_side : Registers → Side
 second_side k = record { asking = mask_of false (asks k 5) (asks k 6) (asks k 7); rotating = k.second.rotating; last = k.second.last }
 
@@ -72,6 +81,7 @@ begun w k = record {
 abbrev pub served : ℕ → Bool → Option ℕ
 served c over = cond over None (Some c)
 
+-- a channel's registers and the service after a transfer
 abbrev pub after_pass : ℕ → Passed → Registers → Registers
 after_pass c p k = with_service (served c p.over) (with_channel c p.channel k)
 
@@ -83,6 +93,7 @@ moves s c (o, Ok u) = (
 )
 moves s c (o, Err e) = (with_world o s, Err e)
 
+-- a transfer at the address that the channel passes
 abbrev pub transfer_of : State → ℕ → State × Result Event Fault
 transfer_of s c = let ch = channel_of s.registers c in moves s c (carried ch.mode.transfer s.world c ch.addressing (passes ch))
 
@@ -91,6 +102,7 @@ abbrev pub fills : State → ℕ → Result Found Fault → State × Result Even
 fills s c (Ok x) = (with_registers (with_channel c (filled x (channel_of s.registers c)) s.registers) s, Ok (Fetched c (channel_of s.registers c).list.next))
 fills s c (Err e) = (s, Err e)
 
+-- a fetch from the channel's list
 abbrev pub fetch_step : State → ℕ → State × Result Event Fault
 fetch_step s c = fills s c (fetch_of s.world.kinds s.world.bytes c (channel_of s.registers c).list)
 
@@ -108,10 +120,12 @@ service_of s c = let ch = channel_of s.registers c in
 abbrev pub failed : ℕ → State → State
 failed c s = with_registers (with_service None (with_channel c (faulted (channel_of s.registers c)) s.registers)) s
 
+-- what came through stays as it is
 abbrev pub settled : ℕ → State × Result Event Fault → State × Result Event Fault
 settled c (s, Ok e) = (s, Ok e)
 settled c (s, Err f) = (failed c s, Err f)
 
+-- a channel in service, with a fault settled
 abbrev pub serve : State → ℕ → State × Result Event Fault
 serve s c = settled c (service_of s c)
 
@@ -130,6 +144,7 @@ abbrev pub ongoing : Registers → Option ℕ → Option ℕ
 ongoing k None = None
 ongoing k (Some c) = cond (goes_on k c) (Some c) None
 
+-- a service that goes on is served, else a channel is chosen
 abbrev pub go_or_choose : State → Option ℕ → State × Result Event Fault
 go_or_choose s (Some c) = serve s c
 go_or_choose s None = choose_of s (choice_of s.registers)

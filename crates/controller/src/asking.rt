@@ -12,13 +12,8 @@ use registers::mode::Service;
 fn wants(group: &Group, channel: Channel) -> bool
     ensures { result ≡ wants group.now channel }
 {
-    if group.active(channel) && !channel.mask {
-        return true;
-    }
-    match channel.mode.service {
-        Service::Block => channel.request,
-        _ => false,
-    }
+    let by_line = group.active(channel) && !channel.mask;
+    by_line || channel.request && channel.mode.service == Service::Block
 }
 
 // The second group may have the bus.
@@ -49,15 +44,12 @@ fn allowed(registers: &Registers, c: u8) -> bool
 pub fn asks(registers: &Registers, c: u8) -> bool
     ensures { result ≡ asks registers.now c }
 {
-    if !allowed(registers, c) {
-        return false;
-    }
-    let channel = registers.channel(c);
-    if c < 4 {
-        wants(&registers.first, channel)
+    let group = if c < 4 {
+        &registers.first
     } else {
-        wants(&registers.second, channel)
-    }
+        &registers.second
+    };
+    allowed(registers, c) && wants(group, registers.channel(c))
 }
 
 // Whether the service of a channel goes on.
@@ -65,9 +57,10 @@ pub(crate) fn goes_on(registers: &Registers, c: u8) -> bool
     ensures { result ≡ goes_on registers.now c }
 {
     let channel = registers.channel(c);
-    match channel.mode.service {
-        Service::Block => allowed(registers, c) && (!channel.mask || channel.request),
-        _ => asks(registers, c),
+    if channel.mode.service == Service::Block {
+        allowed(registers, c) && (!channel.mask || channel.request)
+    } else {
+        asks(registers, c)
     }
 }
 
@@ -97,26 +90,8 @@ fn has_place(list: List) -> bool
 pub(crate) fn first_fetching(registers: &Registers) -> Option<u8>
     ensures { result ≡ first_fetching registers.now }
 {
-    if fetches(registers, 0) {
-        return Some(0);
-    }
-    if fetches(registers, 1) {
-        return Some(1);
-    }
-    if fetches(registers, 2) {
-        return Some(2);
-    }
-    if fetches(registers, 3) {
-        return Some(3);
-    }
-    if fetches(registers, 5) {
-        return Some(5);
-    }
-    if fetches(registers, 6) {
-        return Some(6);
-    }
-    if fetches(registers, 7) {
-        return Some(7);
-    }
-    None
+    [0, 1, 2, 3, 5, 6, 7]
+        .iter()
+        .find(|c| fetches(registers, **c))
+        .copied()
 }

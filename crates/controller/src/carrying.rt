@@ -1,143 +1,99 @@
 // One unit between a device and memory.
 ghost use Rattle.std.specs.Prelude.{◌≡◌, Ok};
-ghost use Rattle.memory.specs.Bytes.{is_absent, is_read_only};
-ghost use Rattle.controller.specs.Outside.{Outside, outside, Does};
-ghost use Rattle.controller.specs.Carrying.{above, and_then, first_of_kind, presence, writability, width, offered, stored_unit, read_unit, take_in, wanted, give_out, carried};
+ghost use Rattle.memory.specs.Faults.{memory_number};
+ghost use Rattle.registers.specs.declared.mode.Transfer.TheVariants.{Read, Write};
+ghost use Rattle.controller.specs.Outside.{outside_of, Does};
+ghost use Rattle.controller.specs.Carrying.{and_then, named, is_of_kind, first_of_kind, presence, writability, width, offered, stored_unit, read_unit, carried};
 
-use crate::fault::{Cause, Fault, at_memory, at_port};
+use crate::fault::{Cause, Fault};
+use crate::target::Target;
 use bus::place::Addressing;
-use memory::{Kind, Memory};
+use memory::{Kind, Memory, MemoryFault};
 use ports::PortBank;
 use registers::mode::Transfer;
 
-// The first byte of a unit that is absent.
-fn first_absent<M: Memory>(memory: &M, addressing: Addressing, address: u32) -> Option<u32>
-    ensures { result ≡ first_of_kind is_absent (M.kind_at memory.now) addressing address }
+// The first byte of a unit that is of a kind.
+fn first_of<M: Memory>(memory: &M, kind: Kind, target: Target) -> Option<u32>
+    ensures { result ≡ first_of_kind (is_of_kind kind) (M.kind_at memory.now) target.addressing target.address }
 {
-    if let Kind::Absent = memory.kind(address) {
-        return Some(address);
+    if memory.kind(target.address) == kind {
+        return Some(target.address);
     }
-    match addressing {
-        Addressing::Bytes => None,
-        Addressing::Words => {
-            let above = address.wrapping_add(1);
-            match memory.kind(above) {
-                Kind::Absent => Some(above),
-                _ => None,
-            }
-        }
+    match target.addressing {
+        Addressing::Words if memory.kind(target.above()) == kind => Some(target.above()),
+        _ => None,
     }
 }
 
-// The first byte of a unit that is read-only.
-fn first_read_only<M: Memory>(memory: &M, addressing: Addressing, address: u32) -> Option<u32>
-    ensures { result ≡ first_of_kind is_read_only (M.kind_at memory.now) addressing address }
+// Refused where a byte of the unit is of a kind.
+fn check_none<M: Memory>(
+    memory: &M,
+    kind: Kind,
+    fault: MemoryFault,
+    target: Target,
+) -> Result<(), Fault>
+    ensures { result ≡ named (memory_number fault) target.channel (first_of_kind (is_of_kind kind) (M.kind_at memory.now) target.addressing target.address) }
 {
-    if let Kind::ReadOnly = memory.kind(address) {
-        return Some(address);
-    }
-    match addressing {
-        Addressing::Bytes => None,
-        Addressing::Words => {
-            let above = address.wrapping_add(1);
-            match memory.kind(above) {
-                Kind::ReadOnly => Some(above),
-                _ => None,
-            }
-        }
+    match first_of(memory, kind, target) {
+        Some(at) => Err(target.fault(fault.into(), at)),
+        None => Ok(()),
     }
 }
 
 // Refused where a byte of the unit is absent.
-fn check_present<M: Memory>(
-    memory: &M,
-    channel: u8,
-    addressing: Addressing,
-    address: u32,
-) -> Result<(), Fault>
-    ensures { result ≡ presence (M.kind_at memory.now) channel addressing address }
+fn check_present<M: Memory>(memory: &M, target: Target) -> Result<(), Fault>
+    ensures { result ≡ presence (M.kind_at memory.now) target.channel target.addressing target.address }
 {
-    match first_absent(memory, addressing, address) {
-        Some(at) => Err(Fault {
-            cause: Cause::Absent,
-            channel,
-            address: at,
-        }),
-        None => Ok(()),
-    }
+    check_none(memory, Kind::Absent, MemoryFault::Absent, target)
 }
 
 // Refused where a byte of the unit cannot be written.
-fn check_writable<M: Memory>(
-    memory: &M,
-    channel: u8,
-    addressing: Addressing,
-    address: u32,
-) -> Result<(), Fault>
-    ensures { result ≡ writability (M.kind_at memory.now) channel addressing address }
+fn check_writable<M: Memory>(memory: &M, target: Target) -> Result<(), Fault>
+    ensures { result ≡ writability (M.kind_at memory.now) target.channel target.addressing target.address }
 {
-    check_present(memory, channel, addressing, address)?;
-    match first_read_only(memory, addressing, address) {
-        Some(at) => Err(Fault {
-            cause: Cause::ReadOnly,
-            channel,
-            address: at,
-        }),
-        None => Ok(()),
-    }
+    check_present(memory, target)?;
+    check_none(memory, Kind::ReadOnly, MemoryFault::ReadOnly, target)
 }
 
 // Refused where a unit is too wide for its transfer.
-fn check_width(channel: u8, addressing: Addressing, address: u32, unit: u16) -> Result<u16, Fault>
-    ensures { result ≡ width channel addressing address unit }
+fn check_width(target: Target, unit: u16) -> Result<u16, Fault>
+    ensures { result ≡ width target.channel target.addressing target.address unit }
 {
-    match addressing {
-        Addressing::Bytes if unit > 255 => Err(Fault {
-            cause: Cause::TooWide,
-            channel,
-            address,
-        }),
+    match target.addressing {
+        Addressing::Bytes if unit > 255 => Err(target.fault(Cause::TooWide, target.address)),
         _ => Ok(unit),
     }
 }
 
 // The unit that a device offers to memory, once every check has passed; nothing moves yet.
-fn offer<M: Memory, B: PortBank>(
-    memory: &M,
-    bank: &B,
-    channel: u8,
-    addressing: Addressing,
-    address: u32,
-) -> Result<u16, Fault>
-    ensures { result ≡ offered (outside (M.kind_at memory.now) (M.byte_at memory.now) (B.waiting bank.now) (B.kept bank.now) (B.free bank.now)) channel addressing address }
+fn offer<M: Memory, B: PortBank>(memory: &M, bank: &B, target: Target) -> Result<u16, Fault>
+    ensures { result ≡ offered (outside_of M.Memory B.PortBank memory.now bank.now) target.channel target.addressing target.address }
 {
-    check_writable(memory, channel, addressing, address)?;
-    let unit = at_port(bank.look(channel), channel, address)?;
-    check_width(channel, addressing, address, unit)
+    check_writable(memory, target)?;
+    let unit = bank
+        .look(target.channel)
+        .map_err(|e| target.fault(e.into(), target.address))?;
+    check_width(target, unit)
 }
 
 // A unit stored where every byte of it can be written.
-fn store<M: Memory>(
-    memory: &mut M,
-    channel: u8,
-    addressing: Addressing,
-    address: u32,
-    unit: u16,
-) -> Result<(), Fault>
-    requires { (writability (M.kind_at memory.old) channel addressing address ≡ Ok tt) × (width channel addressing address unit ≡ Ok unit) }
+fn store<M: Memory>(memory: &mut M, target: Target, unit: u16) -> Result<(), Fault>
+    requires writable { writability (M.kind_at memory.old) target.channel target.addressing target.address ≡ Ok tt }
+    requires fits { width target.channel target.addressing target.address unit ≡ Ok unit }
     ensures answer { result ≡ Ok tt }
     ensures kinds { M.kind_at memory.new ≡ M.kind_at memory.old }
-    ensures bytes { M.byte_at memory.new ≡ stored_unit addressing (M.byte_at memory.old) address unit }
+    ensures bytes { M.byte_at memory.new ≡ stored_unit target.addressing (M.byte_at memory.old) target.address unit }
     ensures lenders { M.fixed memory.new ≡ M.fixed memory.old }
 {
     let [low, high] = unit.to_le_bytes();
-    at_memory(memory.write(address, low), channel, address)?;
-    match addressing {
+    memory
+        .write(target.address, low)
+        .map_err(|e| target.fault(e.into(), target.address))?;
+    match target.addressing {
         Addressing::Bytes => Ok(()),
-        Addressing::Words => {
-            let above = address.wrapping_add(1);
-            at_memory(memory.write(above, high), channel, above)
-        }
+        Addressing::Words => memory
+            .write(target.above(), high)
+            .map_err(|e| target.fault(e.into(), target.above())),
     }
 }
 
@@ -145,52 +101,44 @@ fn store<M: Memory>(
 fn carry_in<M: Memory, B: PortBank>(
     memory: &mut M,
     bank: &mut B,
-    channel: u8,
-    addressing: Addressing,
-    address: u32,
+    target: Target,
 ) -> Result<u16, Fault>
-    ensures does { Does (take_in (outside (M.kind_at memory.old) (M.byte_at memory.old) (B.waiting bank.old) (B.kept bank.old) (B.free bank.old)) channel addressing address (offered (outside (M.kind_at memory.old) (M.byte_at memory.old) (B.waiting bank.old) (B.kept bank.old) (B.free bank.old)) channel addressing address)) (outside (M.kind_at memory.new) (M.byte_at memory.new) (B.waiting bank.new) (B.kept bank.new) (B.free bank.new)) result }
+    ensures does { Does (carried Write (outside_of M.Memory B.PortBank memory.old bank.old) target.channel target.addressing target.address) (outside_of M.Memory B.PortBank memory.new bank.new) result }
     ensures lenders { M.fixed memory.new ≡ M.fixed memory.old }
 {
-    let unit = offer(memory, bank, channel, addressing, address)?;
-    at_port(bank.take(channel), channel, address)?;
-    store(memory, channel, addressing, address, unit)?;
+    let unit = offer(memory, bank, target)?;
+    bank.take(target.channel)
+        .map_err(|e| target.fault(e.into(), target.address))?;
+    store(memory, target, unit)?;
     Ok(unit)
 }
 
 // The unit that memory shows at an address.
-fn load<M: Memory>(
-    memory: &M,
-    channel: u8,
-    addressing: Addressing,
-    address: u32,
-) -> Result<u16, Fault>
-    ensures { result ≡ and_then (presence (M.kind_at memory.now) channel addressing address) (Ok (read_unit addressing (M.byte_at memory.now) address)) }
+fn load<M: Memory>(memory: &M, target: Target) -> Result<u16, Fault>
+    ensures { result ≡ and_then (presence (M.kind_at memory.now) target.channel target.addressing target.address) (Ok (read_unit target.addressing (M.byte_at memory.now) target.address)) }
 {
-    check_present(memory, channel, addressing, address)?;
-    let low = at_memory(memory.read(address), channel, address)?;
-    match addressing {
+    check_present(memory, target)?;
+    let low = memory
+        .read(target.address)
+        .map_err(|e| target.fault(e.into(), target.address))?;
+    match target.addressing {
         Addressing::Bytes => Ok(u16::from(low)),
         Addressing::Words => {
-            let above = address.wrapping_add(1);
-            let high = at_memory(memory.read(above), channel, above)?;
+            let high = memory
+                .read(target.above())
+                .map_err(|e| target.fault(e.into(), target.above()))?;
             Ok(u16::from_le_bytes([low, high]))
         }
     }
 }
 
 // A unit from memory to a device.
-fn carry_out<M: Memory, B: PortBank>(
-    memory: &M,
-    bank: &mut B,
-    channel: u8,
-    addressing: Addressing,
-    address: u32,
-) -> Result<u16, Fault>
-    ensures { Does (give_out (outside (M.kind_at memory.now) (M.byte_at memory.now) (B.waiting bank.old) (B.kept bank.old) (B.free bank.old)) channel (wanted (outside (M.kind_at memory.now) (M.byte_at memory.now) (B.waiting bank.old) (B.kept bank.old) (B.free bank.old)) channel addressing address)) (outside (M.kind_at memory.now) (M.byte_at memory.now) (B.waiting bank.new) (B.kept bank.new) (B.free bank.new)) result }
+fn carry_out<M: Memory, B: PortBank>(memory: &M, bank: &mut B, target: Target) -> Result<u16, Fault>
+    ensures { Does (carried Read (outside_of M.Memory B.PortBank memory.now bank.old) target.channel target.addressing target.address) (outside_of M.Memory B.PortBank memory.now bank.new) result }
 {
-    let unit = load(memory, channel, addressing, address)?;
-    at_port(bank.give(channel, unit), channel, address)?;
+    let unit = load(memory, target)?;
+    bank.give(target.channel, unit)
+        .map_err(|e| target.fault(e.into(), target.address))?;
     Ok(unit)
 }
 
@@ -199,16 +147,14 @@ pub(crate) fn carry<M: Memory, B: PortBank>(
     transfer: Transfer,
     memory: &mut M,
     bank: &mut B,
-    channel: u8,
-    addressing: Addressing,
-    address: u32,
+    target: Target,
 ) -> Result<u16, Fault>
-    ensures does { Does (carried transfer (outside (M.kind_at memory.old) (M.byte_at memory.old) (B.waiting bank.old) (B.kept bank.old) (B.free bank.old)) channel addressing address) (outside (M.kind_at memory.new) (M.byte_at memory.new) (B.waiting bank.new) (B.kept bank.new) (B.free bank.new)) result }
+    ensures does { Does (carried transfer (outside_of M.Memory B.PortBank memory.old bank.old) target.channel target.addressing target.address) (outside_of M.Memory B.PortBank memory.new bank.new) result }
     ensures lenders { M.fixed memory.new ≡ M.fixed memory.old }
 {
     match transfer {
         Transfer::Verify => Ok(0),
-        Transfer::Write => carry_in(memory, bank, channel, addressing, address),
-        Transfer::Read => carry_out(memory, bank, channel, addressing, address),
+        Transfer::Write => carry_in(memory, bank, target),
+        Transfer::Read => carry_out(memory, bank, target),
     }
 }

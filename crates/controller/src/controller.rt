@@ -3,7 +3,7 @@ ghost use Rattle.std.specs.Prelude.{◌≡◌};
 ghost use Rattle.registers.specs.Refusals.{shown, value_of};
 ghost use Rattle.registers.specs.File.{write_number, written, read_number, read_value, read_leaves, lines_number, lined};
 ghost use Rattle.controller.specs.Outside.{Outside};
-ghost use Rattle.controller.specs.Steps.{state_of, fresh, with_registers};
+ghost use Rattle.controller.specs.Steps.{Becomes, state_of, fresh, with_registers};
 
 use registers::file::Registers;
 use registers::refusal::Refusal;
@@ -35,7 +35,7 @@ impl Controller {
 
     // A byte written to a port by the driver.
     pub fn write(&mut self, port: u16, value: u8) -> Result<(), Refusal>
-        ensures state { (o : Outside) → state_of self.new o ≡ with_registers (written port value self.old.registers) (state_of self.old o) }
+        ensures state { Becomes self.old self.new (with_registers (written port value self.old.registers)) }
         ensures answer { shown result ≡ write_number self.old.registers port value }
     {
         self.registers.write(port, value)
@@ -43,7 +43,7 @@ impl Controller {
 
     // A port read by the driver.
     pub fn read(&mut self, port: u16) -> Result<u8, Refusal>
-        ensures state { (o : Outside) → state_of self.new o ≡ with_registers (read_leaves port self.old.registers) (state_of self.old o) }
+        ensures state { Becomes self.old self.new (with_registers (read_leaves port self.old.registers)) }
         ensures answer { shown result ≡ read_number port }
         ensures value { value_of result ≡ read_value self.old.registers port }
     {
@@ -52,7 +52,7 @@ impl Controller {
 
     // The levels of the devices' lines.
     pub fn lines(&mut self, bits: u8) -> Result<(), Refusal>
-        ensures state { (o : Outside) → state_of self.new o ≡ with_registers (lined bits self.old.registers) (state_of self.old o) }
+        ensures state { Becomes self.old self.new (with_registers (lined bits self.old.registers)) }
         ensures answer { shown result ≡ lines_number bits }
     {
         self.registers.lines(bits)

@@ -1,20 +1,25 @@
 // What a step cannot do, and where it met it.
 ghost use Rattle.std.specs.Prelude.{◌≡◌};
-ghost use Rattle.controller.specs.Faults.{cause_number, layer_of, of_memory, of_port, at_memory, at_port};
+ghost use Rattle.controller.specs.Faults.{table_number, cause_number, layer_of};
+ghost use Rattle.controller.specs.declared.fault.Cause.TheVariants.{Memory, Port, Table};
 
 use memory::MemoryFault;
 use ports::PortFault;
 
+// Why no entry is fetched.
+#[derive(Clone, Copy, PartialEq, Eq, Debug)]
+pub enum TableFault {
+    EntryAbsent = 41,
+    TooManyEntries = 42,
+}
+
+// A refusal of the memory, of the bank or of the table, or a unit too wide for a transfer of bytes.
 #[derive(Clone, Copy, PartialEq, Eq, Debug)]
 pub enum Cause {
-    Absent,
-    ReadOnly,
-    NothingWaits,
-    NoPlace,
-    NoSuchChannel,
+    Memory(MemoryFault),
+    Port(PortFault),
     TooWide,
-    EntryAbsent,
-    TooManyEntries,
+    Table(TableFault),
 }
 
 // The layer that refused.
@@ -32,20 +37,25 @@ pub struct Fault {
     pub address: u32,
 }
 
+impl TableFault {
+    // The refusal's number.
+    pub fn number(self) -> u8
+        ensures { result ≡ table_number self }
+    {
+        self as u8
+    }
+}
+
 impl Cause {
     // The number that a notice shows.
     pub fn number(self) -> u8
         ensures { result ≡ cause_number self }
     {
         match self {
-            Cause::Absent => 21,
-            Cause::ReadOnly => 22,
-            Cause::NothingWaits => 31,
-            Cause::NoPlace => 32,
-            Cause::NoSuchChannel => 33,
+            Cause::Memory(fault) => fault.number(),
+            Cause::Port(fault) => fault.number(),
             Cause::TooWide => 34,
-            Cause::EntryAbsent => 41,
-            Cause::TooManyEntries => 42,
+            Cause::Table(fault) => fault.number(),
         }
     }
 
@@ -54,60 +64,33 @@ impl Cause {
         ensures { result ≡ layer_of self }
     {
         match self {
-            Cause::Absent | Cause::ReadOnly => Layer::Memory,
-            Cause::EntryAbsent | Cause::TooManyEntries => Layer::Table,
-            _ => Layer::Port,
+            Cause::Memory(_) => Layer::Memory,
+            Cause::Port(_) | Cause::TooWide => Layer::Port,
+            Cause::Table(_) => Layer::Table,
         }
     }
 }
 
-// A memory's answer, with the channel and the address that it was asked for.
-pub(crate) fn at_memory<T>(
-    answer: Result<T, MemoryFault>,
-    channel: u8,
-    address: u32,
-) -> Result<T, Fault>
-    ensures { result ≡ at_memory channel address answer }
-{
-    match answer {
-        Ok(value) => Ok(value),
-        Err(MemoryFault::Absent) => Err(Fault {
-            cause: Cause::Absent,
-            channel,
-            address,
-        }),
-        Err(MemoryFault::ReadOnly) => Err(Fault {
-            cause: Cause::ReadOnly,
-            channel,
-            address,
-        }),
+impl From<MemoryFault> for Cause {
+    ghost from_gives = { λ refusal r. r ≡ Memory refusal };
+
+    fn from(refusal: MemoryFault) -> Cause {
+        Cause::Memory(refusal)
     }
 }
 
-// A bank's answer, with the channel and the address of the transfer.
-pub(crate) fn at_port<T>(
-    answer: Result<T, PortFault>,
-    channel: u8,
-    address: u32,
-) -> Result<T, Fault>
-    ensures { result ≡ at_port channel address answer }
-{
-    match answer {
-        Ok(value) => Ok(value),
-        Err(PortFault::NothingWaits) => Err(Fault {
-            cause: Cause::NothingWaits,
-            channel,
-            address,
-        }),
-        Err(PortFault::NoPlace) => Err(Fault {
-            cause: Cause::NoPlace,
-            channel,
-            address,
-        }),
-        Err(PortFault::NoSuchChannel) => Err(Fault {
-            cause: Cause::NoSuchChannel,
-            channel,
-            address,
-        }),
+impl From<PortFault> for Cause {
+    ghost from_gives = { λ refusal r. r ≡ Port refusal };
+
+    fn from(refusal: PortFault) -> Cause {
+        Cause::Port(refusal)
+    }
+}
+
+impl From<TableFault> for Cause {
+    ghost from_gives = { λ refusal r. r ≡ Table refusal };
+
+    fn from(refusal: TableFault) -> Cause {
+        Cause::Table(refusal)
     }
 }

@@ -3,7 +3,7 @@ ghost use Rattle.std.specs.Prelude.{◌≡◌};
 ghost use Rattle.controller.specs.Carrying.{named, above};
 ghost use Rattle.controller.specs.Fetching.{first_absent, fetched_byte, fetched_word, entry_at, fetch_of, filled};
 
-use crate::fault::{Cause, Fault};
+use crate::fault::{Fault, TableFault};
 use crate::passing::load_current;
 use memory::Memory;
 use registers::channel::Channel;
@@ -31,31 +31,25 @@ pub struct Fetched {
 fn read_byte<M: Memory>(memory: &M, channel: u8, place: u32) -> Result<u8, Fault>
     ensures { result ≡ fetched_byte (M.kind_at memory.now) (M.byte_at memory.now) channel place }
 {
-    match memory.read(place) {
-        Ok(value) => Ok(value),
-        Err(_) => Err(Fault {
-            cause: Cause::EntryAbsent,
-            channel,
-            address: place,
-        }),
-    }
+    memory.read(place).map_err(|_| Fault {
+        cause: TableFault::EntryAbsent.into(),
+        channel,
+        address: place,
+    })
 }
 
 // A word, lowest byte first.
 fn read_word<M: Memory>(memory: &M, channel: u8, start: u32) -> Result<Word, Fault>
     ensures { result ≡ fetched_word (M.kind_at memory.now) (M.byte_at memory.now) channel start }
 {
+    let mut bytes = [0; 4];
     let mut place = start;
-    let a = read_byte(memory, channel, place)?;
-    place = place.wrapping_add(1);
-    let b = read_byte(memory, channel, place)?;
-    place = place.wrapping_add(1);
-    let c = read_byte(memory, channel, place)?;
-    place = place.wrapping_add(1);
-    let d = read_byte(memory, channel, place)?;
-    place = place.wrapping_add(1);
+    for byte in &mut bytes {
+        *byte = read_byte(memory, channel, place)?;
+        place = place.wrapping_add(1);
+    }
     Ok(Word {
-        value: u32::from_le_bytes([a, b, c, d]),
+        value: u32::from_le_bytes(bytes),
         next: place,
     })
 }
@@ -83,7 +77,7 @@ pub(crate) fn fetch<M: Memory>(memory: &M, channel: u8, list: List) -> Result<Fe
 {
     if list.entries >= MOST_ENTRIES {
         return Err(Fault {
-            cause: Cause::TooManyEntries,
+            cause: TableFault::TooManyEntries.into(),
             channel,
             address: 0,
         });

@@ -1,8 +1,9 @@
 // Grants of the bus to a bus master on a cascade channel.
 ghost use Rattle.std.specs.Prelude.{◌≡◌, IfOk, IfErr};
-ghost use Rattle.controller.specs.Outside.{Outside, outside};
-ghost use Rattle.controller.specs.Steps.{state_of, with_bus};
-ghost use Rattle.controller.specs.Grants.{bus_number, seen_by, shown_bus, shown_release, byte_in, take_number, took_bus, out_to, holds, cycle_number, cycle_value, after_cycle, release_number, released};
+ghost use Rattle.controller.specs.declared.grant.BusRefusal.TheVariants.{Memory};
+ghost use Rattle.controller.specs.Outside.{Outside, with_memory};
+ghost use Rattle.controller.specs.Steps.{Becomes, state_of, with_bus};
+ghost use Rattle.controller.specs.Grants.{bus_number, shown_bus, shown_release, byte_in, take_number, took_bus, out_to, holds, cycle_number, cycle_value, after_cycle, release_number, released};
 
 use crate::controller::{Bus, Controller};
 use memory::{Memory, MemoryFault};
@@ -23,8 +24,15 @@ pub enum Cycle {
 pub enum BusRefusal {
     NotOffered,
     NotGranted,
-    Absent,
-    ReadOnly,
+    Memory(MemoryFault),
+}
+
+impl From<MemoryFault> for BusRefusal {
+    ghost from_gives = { λ refusal r. r ≡ Memory refusal };
+
+    fn from(refusal: MemoryFault) -> BusRefusal {
+        BusRefusal::Memory(refusal)
+    }
 }
 
 impl BusRefusal {
@@ -34,8 +42,7 @@ impl BusRefusal {
         match self {
             BusRefusal::NotOffered => 11,
             BusRefusal::NotGranted => 12,
-            BusRefusal::Absent => 21,
-            BusRefusal::ReadOnly => 22,
+            BusRefusal::Memory(fault) => fault.number(),
         }
     }
 }
@@ -49,21 +56,10 @@ impl Grant {
     }
 }
 
-// A memory's answer, as a bus master sees it.
-fn seen<T>(answer: Result<T, MemoryFault>) -> Result<T, BusRefusal>
-    ensures { result ≡ seen_by answer }
-{
-    match answer {
-        Ok(value) => Ok(value),
-        Err(MemoryFault::Absent) => Err(BusRefusal::Absent),
-        Err(MemoryFault::ReadOnly) => Err(BusRefusal::ReadOnly),
-    }
-}
-
 impl Controller {
     // Takes the bus that is out; the grant is for the channel that it is out to.
     pub fn take(&mut self) -> Result<Grant, BusRefusal>
-        ensures state { (o : Outside) → state_of self.new o ≡ with_bus (took_bus self.old.bus) (state_of self.old o) }
+        ensures state { Becomes self.old self.new (with_bus (took_bus self.old.bus)) }
         ensures answer { shown_bus result ≡ take_number self.old.bus }
         ensures grant { IfOk result (λ g. g.channel ≡ out_to self.old.bus) }
     {
@@ -80,10 +76,7 @@ impl Controller {
     fn holds(&self, channel: u8) -> bool
         ensures { result ≡ holds self.now.bus channel }
     {
-        match self.bus {
-            Bus::Taken(c) => c == channel,
-            _ => false,
-        }
+        self.bus == Bus::Taken(channel)
     }
 
     // One byte read or written under a grant.
@@ -93,18 +86,18 @@ impl Controller {
         memory: &mut M,
         cycle: Cycle,
     ) -> Result<u8, BusRefusal>
-        ensures state { (o : Outside) → o.kinds ≡ M.kind_at memory.old → o.bytes ≡ M.byte_at memory.old → state_of self.now (outside (M.kind_at memory.new) (M.byte_at memory.new) o.waiting o.kept o.free) ≡ after_cycle grant.now.channel cycle (state_of self.now o) }
-        ensures answer { (o : Outside) → o.kinds ≡ M.kind_at memory.old → shown_bus result ≡ cycle_number (state_of self.now o) grant.now.channel cycle }
-        ensures value { (o : Outside) → o.kinds ≡ M.kind_at memory.old → o.bytes ≡ M.byte_at memory.old → byte_in result ≡ cycle_value (state_of self.now o) grant.now.channel cycle }
+        ensures state { (o : Outside) → state_of self.now (with_memory M.Memory memory.new o) ≡ after_cycle grant.now.channel cycle (state_of self.now (with_memory M.Memory memory.old o)) }
+        ensures answer { (o : Outside) → shown_bus result ≡ cycle_number (state_of self.now (with_memory M.Memory memory.old o)) grant.now.channel cycle }
+        ensures value { (o : Outside) → byte_in result ≡ cycle_value (state_of self.now (with_memory M.Memory memory.old o)) grant.now.channel cycle }
         ensures lenders { M.fixed memory.new ≡ M.fixed memory.old }
     {
         if !self.holds(grant.channel) {
             return Err(BusRefusal::NotGranted);
         }
         match cycle {
-            Cycle::Read { address } => seen(memory.read(address)),
+            Cycle::Read { address } => Ok(memory.read(address)?),
             Cycle::Write { address, byte } => {
-                seen(memory.write(address, byte))?;
+                memory.write(address, byte)?;
                 Ok(byte)
             }
         }
@@ -112,7 +105,7 @@ impl Controller {
 
     // Gives the bus back, which ends the service; a grant that does not hold is handed back.
     pub fn release(&mut self, grant: Grant) -> Result<(), Grant>
-        ensures state { (o : Outside) → state_of self.new o ≡ released grant.channel (state_of self.old o) }
+        ensures state { Becomes self.old self.new (released grant.channel) }
         ensures answer { (o : Outside) → shown_release result ≡ release_number (state_of self.old o) grant.channel }
         ensures back { IfErr result (λ g. g ≡ grant) }
     {
@@ -121,10 +114,8 @@ impl Controller {
         }
         let Grant { channel } = grant;
         self.bus = Bus::Home;
-        if let Some(c) = self.registers.service {
-            if channel == c {
-                self.registers.service = None;
-            }
+        if self.registers.service == Some(channel) {
+            self.registers.service = None;
         }
         Ok(())
     }

@@ -2,8 +2,7 @@
 ghost use Rattle.std.specs.Prelude.{◌≡◌, Bool, true, false, not};
 ghost use Rattle.registers.specs.Refusals.{shown};
 ghost use Rattle.registers.specs.Channels.{byte_of};
-ghost use Rattle.controller.specs.Outside.{Outside};
-ghost use Rattle.controller.specs.Steps.{state_of};
+ghost use Rattle.controller.specs.Steps.{Becomes};
 ghost use Rattle.controller.specs.Inspecting.{inspect_number, seen_in, inspected};
 
 use crate::controller::Controller;
@@ -38,10 +37,9 @@ fn next_byte(pointer: &mut BytePointer, word: u16) -> u8
     ensures value { result ≡ byte_of pointer.old.high word }
     ensures flips { pointer.new.high ≡ not pointer.old.high }
 {
-    let [low, top] = word.to_le_bytes();
-    let high = pointer.high;
-    pointer.high = !high;
-    if high { top } else { low }
+    let byte = word.to_le_bytes()[usize::from(pointer.high)];
+    pointer.high = !pointer.high;
+    byte
 }
 
 // Both bytes of a register, low first.
@@ -69,20 +67,18 @@ fn look(pointer: &mut BytePointer, span: Span) -> Inspection
 impl Controller {
     // A channel's current address and count.
     pub fn inspect(&mut self, c: u8) -> Result<Inspection, Refusal>
-        ensures state { (o : Outside) → state_of self.new o ≡ state_of self.old o }
+        ensures state { Becomes self.old self.new (λ s. s) }
         ensures answer { shown result ≡ inspect_number c }
         ensures value { seen_in result ≡ inspected self.old.registers c }
     {
-        if c > 7 {
-            return Err(Refusal::NoSuchChannel);
-        }
-        if c == 4 {
+        if c > 7 || c == 4 {
             return Err(Refusal::NoSuchChannel);
         }
         let span = self.registers.channel(c).current;
         if c < 4 {
-            return Ok(look(&mut self.registers.first.pointer, span));
+            Ok(look(&mut self.registers.first.pointer, span))
+        } else {
+            Ok(look(&mut self.registers.second.pointer, span))
         }
-        Ok(look(&mut self.registers.second.pointer, span))
     }
 }

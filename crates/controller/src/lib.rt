@@ -11,3 +11,4 @@ pub mod grant;
 pub mod inspect;
 pub mod passing;
 pub mod step;
+mod target;

@@ -91,15 +91,11 @@ fn end_plain(channel: Channel) -> Channel
 fn end_list(channel: Channel) -> Channel
     ensures { result ≡ list_end channel }
 {
-    let irq13 = match channel.list.signal {
-        Signal::Eop => channel.list.irq13,
-        Signal::Irq13 => true,
-    };
     let list = List {
         active: false,
         loaded: false,
         reserve: None,
-        irq13,
+        irq13: channel.list.irq13 || channel.list.signal == Signal::Irq13,
         ..channel.list
     };
     Channel {
@@ -168,14 +164,10 @@ pub(crate) fn pass(channel: Channel) -> Passed
     if channel.current.count == 0 {
         return end_count(moved);
     }
-    let over = match channel.mode.service {
-        Service::Single => true,
-        _ => false,
-    };
     Passed {
         channel: moved,
         signal: None,
-        over,
+        over: channel.mode.service == Service::Single,
     }
 }
 

@@ -1,7 +1,7 @@
 // A step: one thing done.
 ghost use Rattle.std.specs.Prelude.{◌≡◌};
-ghost use Rattle.controller.specs.Outside.{Outside, outside, Does};
-ghost use Rattle.controller.specs.Steps.{state_of, with_registers, choice_of, begun, transfer_of, fetch_step, service_of, settled, serve, ahead_of, choose_of, ongoing, step_of};
+ghost use Rattle.controller.specs.Outside.{Outside, outside_of, with_memory, Does};
+ghost use Rattle.controller.specs.Steps.{Becomes, state_of, with_registers, choice_of, begun, transfer_of, fetch_step, service_of, settled, serve, ahead_of, choose_of, ongoing, step_of};
 ghost use Rattle.controller.specs.Asking.{first_fetching};
 
 use crate::asking::{asks, first_fetching, goes_on};
@@ -11,12 +11,25 @@ use crate::event::Event;
 use crate::fault::Fault;
 use crate::fetching::{fetch, fill};
 use crate::passing::{address, fail, pass};
+use crate::target::Target;
 use arbiter::groups::{Choice, Side, winner};
 use arbiter::slots::mask;
 use memory::Memory;
 use ports::PortBank;
 use registers::file::Registers;
+use registers::group::Group;
 use registers::mode::Service;
+
+// A group and the slots of it that ask, as the arbiter takes them.
+fn side(group: &Group, asking: u8) -> Side
+    ensures { result ≡ record { asking = asking; rotating = group.now.rotating; last = group.now.last } }
+{
+    Side {
+        asking,
+        rotating: group.rotating,
+        last: group.last,
+    }
+}
 
 // The choice between all channels that ask.
 fn choose(registers: &Registers) -> Option<Choice>
@@ -35,16 +48,8 @@ fn choose(registers: &Registers) -> Option<Choice>
         asks(registers, 7),
     );
     winner(
-        Side {
-            asking: first,
-            rotating: registers.first.rotating,
-            last: registers.first.last,
-        },
-        Side {
-            asking: second,
-            rotating: registers.second.rotating,
-            last: registers.second.last,
-        },
+        side(&registers.first, first),
+        side(&registers.second, second),
     )
 }
 
@@ -56,25 +61,22 @@ impl Controller {
         memory: &mut M,
         bank: &mut B,
     ) -> Result<Event, Fault>
-        ensures does { Does (transfer_of (state_of self.old (outside (M.kind_at memory.old) (M.byte_at memory.old) (B.waiting bank.old) (B.kept bank.old) (B.free bank.old))) c) (state_of self.new (outside (M.kind_at memory.new) (M.byte_at memory.new) (B.waiting bank.new) (B.kept bank.new) (B.free bank.new))) result }
+        ensures does { Does (transfer_of (state_of self.old (outside_of M.Memory B.PortBank memory.old bank.old)) c) (state_of self.new (outside_of M.Memory B.PortBank memory.new bank.new)) result }
         ensures lenders { M.fixed memory.new ≡ M.fixed memory.old }
     {
         let channel = self.registers.channel(c);
-        let at = address(channel);
-        let unit = carry(
-            channel.mode.transfer,
-            memory,
-            bank,
-            c,
-            channel.addressing,
-            at,
-        )?;
+        let target = Target {
+            channel: c,
+            addressing: channel.addressing,
+            address: address(channel),
+        };
+        let unit = carry(channel.mode.transfer, memory, bank, target)?;
         let passed = pass(channel);
         self.registers.put(c, passed.channel);
         self.registers.service = if passed.over { None } else { Some(c) };
         Ok(Event::Moved {
             channel: c,
-            address: at,
+            address: target.address,
             unit,
             signal: passed.signal,
         })
@@ -82,7 +84,7 @@ impl Controller {
 
     // A fetch of a channel's next entry; a fault leaves everything.
     fn fetch_entry<M: Memory>(&mut self, c: u8, memory: &M) -> Result<Event, Fault>
-        ensures { (o : Outside) → o.kinds ≡ M.kind_at memory.now → o.bytes ≡ M.byte_at memory.now → Does (fetch_step (state_of self.old o) c) (state_of self.new o) result }
+        ensures { (o : Outside) → Does (fetch_step (state_of self.old (with_memory M.Memory memory.now o)) c) (state_of self.new (with_memory M.Memory memory.now o)) result }
     {
         let channel = self.registers.channel(c);
         let fetched = fetch(memory, c, channel.list)?;
@@ -100,11 +102,11 @@ impl Controller {
         memory: &mut M,
         bank: &mut B,
     ) -> Result<Event, Fault>
-        ensures does { Does (service_of (state_of self.old (outside (M.kind_at memory.old) (M.byte_at memory.old) (B.waiting bank.old) (B.kept bank.old) (B.free bank.old))) c) (state_of self.new (outside (M.kind_at memory.new) (M.byte_at memory.new) (B.waiting bank.new) (B.kept bank.new) (B.free bank.new))) result }
+        ensures does { Does (service_of (state_of self.old (outside_of M.Memory B.PortBank memory.old bank.old)) c) (state_of self.new (outside_of M.Memory B.PortBank memory.new bank.new)) result }
         ensures lenders { M.fixed memory.new ≡ M.fixed memory.old }
     {
         let channel = self.registers.channel(c);
-        if let Service::Cascade = channel.mode.service {
+        if channel.mode.service == Service::Cascade {
             self.bus = Bus::Out(c);
             return Ok(Event::Lent { channel: c });
         }
@@ -133,7 +135,7 @@ impl Controller {
         memory: &mut M,
         bank: &mut B,
     ) -> Result<Event, Fault>
-        ensures does { Does (serve (state_of self.old (outside (M.kind_at memory.old) (M.byte_at memory.old) (B.waiting bank.old) (B.kept bank.old) (B.free bank.old))) c) (state_of self.new (outside (M.kind_at memory.new) (M.byte_at memory.new) (B.waiting bank.new) (B.kept bank.new) (B.free bank.new))) result }
+        ensures does { Does (serve (state_of self.old (outside_of M.Memory B.PortBank memory.old bank.old)) c) (state_of self.new (outside_of M.Memory B.PortBank memory.new bank.new)) result }
         ensures lenders { M.fixed memory.new ≡ M.fixed memory.old }
     {
         let outcome = self.work(c, memory, bank);
@@ -142,7 +144,7 @@ impl Controller {
 
     // Nobody asks: the lowest channel that can fetches ahead.
     fn fetch_ahead<M: Memory>(&mut self, memory: &M) -> Result<Event, Fault>
-        ensures { (o : Outside) → o.kinds ≡ M.kind_at memory.now → o.bytes ≡ M.byte_at memory.now → Does (ahead_of (state_of self.old o) (first_fetching self.old.registers)) (state_of self.new o) result }
+        ensures { (o : Outside) → Does (ahead_of (state_of self.old (with_memory M.Memory memory.now o)) (first_fetching self.old.registers)) (state_of self.new (with_memory M.Memory memory.now o)) result }
     {
         match first_fetching(&self.registers) {
             None => Ok(Event::Idle),
@@ -155,7 +157,7 @@ impl Controller {
 
     // A choice begins a service.
     fn begin(&mut self, choice: Choice)
-        ensures { (o : Outside) → state_of self.new o ≡ with_registers (begun choice self.old.registers) (state_of self.old o) }
+        ensures { Becomes self.old self.new (with_registers (begun choice self.old.registers)) }
     {
         if let Some(slot) = choice.first {
             self.registers.first.last = slot;
@@ -170,7 +172,7 @@ impl Controller {
         memory: &mut M,
         bank: &mut B,
     ) -> Result<Event, Fault>
-        ensures does { Does (choose_of (state_of self.old (outside (M.kind_at memory.old) (M.byte_at memory.old) (B.waiting bank.old) (B.kept bank.old) (B.free bank.old))) (choice_of self.old.registers)) (state_of self.new (outside (M.kind_at memory.new) (M.byte_at memory.new) (B.waiting bank.new) (B.kept bank.new) (B.free bank.new))) result }
+        ensures does { Does (choose_of (state_of self.old (outside_of M.Memory B.PortBank memory.old bank.old)) (choice_of self.old.registers)) (state_of self.new (outside_of M.Memory B.PortBank memory.new bank.new)) result }
         ensures lenders { M.fixed memory.new ≡ M.fixed memory.old }
     {
         match choose(&self.registers) {
@@ -189,10 +191,9 @@ impl Controller {
     fn ongoing(&self) -> Option<u8>
         ensures { result ≡ ongoing self.now.registers self.now.registers.service }
     {
-        match self.registers.service {
-            Some(c) if goes_on(&self.registers, c) => Some(c),
-            _ => None,
-        }
+        self.registers
+            .service
+            .filter(|c| goes_on(&self.registers, *c))
     }
 
     // Does one thing, and answers it.
@@ -201,15 +202,15 @@ impl Controller {
         memory: &mut M,
         bank: &mut B,
     ) -> Result<Event, Fault>
-        ensures does { Does (step_of (state_of self.old (outside (M.kind_at memory.old) (M.byte_at memory.old) (B.waiting bank.old) (B.kept bank.old) (B.free bank.old)))) (state_of self.new (outside (M.kind_at memory.new) (M.byte_at memory.new) (B.waiting bank.new) (B.kept bank.new) (B.free bank.new))) result }
+        ensures does { Does (step_of (state_of self.old (outside_of M.Memory B.PortBank memory.old bank.old))) (state_of self.new (outside_of M.Memory B.PortBank memory.new bank.new)) result }
         ensures lenders { M.fixed memory.new ≡ M.fixed memory.old }
     {
-        if let Bus::Home = self.bus {
-            match self.ongoing() {
-                Some(c) => return self.serve(c, memory, bank),
-                None => return self.choose_anew(memory, bank),
-            }
+        if self.bus != Bus::Home {
+            return Ok(Event::Away);
         }
-        Ok(Event::Away)
+        match self.ongoing() {
+            Some(c) => self.serve(c, memory, bank),
+            None => self.choose_anew(memory, bank),
+        }
     }
 }
