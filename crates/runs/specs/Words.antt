@@ -33,8 +33,8 @@ use Rattle.controller.specs.Carrying.{above}
 use Rattle.controller.specs.Fetching.{entry_at, most_entries}
 use Rattle.runs.specs.declared.calls.Call.{Call}
 use Rattle.runs.specs.declared.calls.Call.TheVariants as call
-use Rattle.runs.specs.declared.calls.Answer.{Answer}
-use Rattle.runs.specs.declared.calls.Answer.TheVariants as answer
+use Rattle.runs.specs.Told.{Told}
+use Rattle.runs.specs.Told as answer
 use Rattle.runs.specs.Calls.{Turn}
 
 -- a unit that was transferred, as the step answered it
@@ -53,7 +53,7 @@ moved_by (Ok (event.Fetched c a)) = None
 moved_by (Ok (event.Moved c a u s)) = Some (record { channel = c; address = a; unit = u; signal = s })
 moved_by (Err f) = None
 
-abbrev pub told : Answer → Option Move
+abbrev pub told : Told → Option Move
 told (answer.Write n) = None
 told (answer.Read n v) = None
 told (answer.Lines n) = None
@@ -80,7 +80,7 @@ fetched_by c (Ok (event.Fetched d a)) = cond (c == d) (Some a) None
 fetched_by c (Ok (event.Moved d a u s)) = None
 fetched_by c (Err f) = None
 
-abbrev pub fetch_in : ℕ → Answer → Option ℕ
+abbrev pub fetch_in : ℕ → Told → Option ℕ
 fetch_in c (answer.Write n) = None
 fetch_in c (answer.Read n v) = None
 fetch_in c (answer.Lines n) = None
@@ -145,7 +145,7 @@ stored_by_cycle (cycle.Read a) n = []
 stored_by_cycle (cycle.Write a b) n = cond (n == 0) ((a, b) ∷ []) []
 
 -- an accepted write cycle of a grant stores its byte
-abbrev pub cycle_number_in : Answer → ℕ
+abbrev pub cycle_number_in : Told → ℕ
 cycle_number_in (answer.Write n) = 0
 cycle_number_in (answer.Read n v) = 0
 cycle_number_in (answer.Lines n) = 0
@@ -156,7 +156,7 @@ cycle_number_in (answer.Cycle n b) = n
 cycle_number_in (answer.Release n) = 0
 
 -- the bytes that a turn stored in memory, by a transfer or by a cycle, in order
-abbrev pub stored_in : State → Call → Answer → List (ℕ × ℕ)
+abbrev pub stored_in : State → Call → Told → List (ℕ × ℕ)
 stored_in s (call.Write p v) r = []
 stored_in s (call.Read p) r = []
 stored_in s (call.Lines b) r = []
@@ -203,7 +203,7 @@ write_begins s (Some (target.ListCommand d)) v c = c == d && list_begins_for (ch
 write_begins s (Some (target.Control x d)) v c = control_begins x d v c
 
 -- a write that was accepted
-abbrev pub accepted_write : Answer → Bool
+abbrev pub accepted_write : Told → Bool
 accepted_write (answer.Write n) = n == 0
 accepted_write (answer.Read n v) = false
 accepted_write (answer.Lines n) = false
@@ -218,7 +218,7 @@ abbrev pub signalled : Option Move → Bool
 signalled None = false
 signalled (Some m) = is_some m.signal
 
-abbrev pub call_begins : State → Call → Answer → ℕ → Bool
+abbrev pub call_begins : State → Call → Told → ℕ → Bool
 call_begins s (call.Write p v) r c = accepted_write r && write_begins s (write_port p) v c
 call_begins s (call.Read p) r c = false
 call_begins s (call.Lines b) r c = false
@@ -239,7 +239,7 @@ stop_at (Some (target.Field f d)) v c = false
 stop_at (Some (target.ListCommand d)) v c = c == d && v % 4 == 2
 stop_at (Some (target.Control x d)) v c = false
 
-abbrev pub stop_call : Call → Answer → ℕ → Bool
+abbrev pub stop_call : Call → Told → ℕ → Bool
 stop_call (call.Write p v) r c = accepted_write r && stop_at (write_port p) v c
 stop_call (call.Read p) r c = false
 stop_call (call.Lines b) r c = false
