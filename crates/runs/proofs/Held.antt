@@ -1,5 +1,5 @@
 -- The grant that is held, against where the bus is.
-use Rattle.std.proofs.Common.{◌≡◌, ℕ, ◌<◌, true, false, cond, [], Some, None, Ok, Err, Option, Result, sym, refl, ap, subst, arith}
+use Rattle.std.proofs.Common.{◌≡◌, ℕ, ◌<◌, true, cond, [], Some, None, Ok, Err, Option, Result, sym, refl, ap, subst, arith}
 use Rattle.std.specs.Result.{IsOk}
 use Rattle.registers.specs.declared.file.Registers.{Registers}
 use Rattle.controller.specs.declared.controller.Bus.{Bus}
@@ -14,6 +14,7 @@ use Rattle.controller.specs.Steps.{State, state_of, with_registers, with_bus}
 use Rattle.controller.specs.Grants.{take_number, took_bus, out_to, bus_number, holds, shown_release, released}
 use Rattle.runs.specs.Calls.{Holding, granted_to}
 
+-- a refusal has a number above 0
 pub refusal_shows : (e : BusRefusal) → 0 < bus_number e
 refusal_shows bus.NotOffered = omega arith
 refusal_shows bus.NotGranted = omega arith
@@ -28,17 +29,7 @@ nowhere = record { kinds = λ _. Absent; bytes = λ _. 0; waiting = λ _. []; ke
 pub bus_of : (k : Controller) (s : Outside → State) → ((o : Outside) → state_of k o ≡ s o) → k.bus ≡ (s nowhere).bus
 bus_of k s h = ap (λ (x : State). x.bus) (h nowhere)
 
--- without a grant none holds; the one held is for the channel that the bus is out to, and holds
-pub none_holds : (b : Bus) → Holding None b → (g : ℕ) → holds b g ≡ false
-none_holds Home h g = refl
-none_holds (Out c) h g = refl
-none_holds (Taken c) h g = absurd h
-
-pub held_channel : (g : Grant) (b : Bus) → Holding (Some g) b → g.channel ≡ out_to b
-held_channel g Home h = absurd h
-held_channel g (Out c) h = absurd h
-held_channel g (Taken c) h = h
-
+-- a grant that is held holds
 pub held_holds : (g : Grant) (b : Bus) → Holding (Some g) b → holds b g.channel ≡ true
 held_holds g Home h = absurd h
 held_holds g (Out c) h = absurd h
@@ -50,10 +41,6 @@ accepted g b (Ok x) h e = refl
 accepted g b (Err x) h e =
     let z : ◌≡◌ {A = ℕ} 12 0 = rw (held_holds g b h) at e in
     absurd (omega arith)
-
--- a release brings the bus back
-pub home_again : (s : State) (g : ℕ) → holds s.bus g ≡ true → (released g s).bus ≡ Home
-home_again s g h = rw h
 
 -- a grant stays held where the bus stays
 pub still_held : (g : Option Grant) (b b' : Bus) → b' ≡ b → Holding g b → Holding g b'
