@@ -66,5 +66,6 @@ abbrev pub ended : State → List Call → State
 ended s [] = s
 ended s (k ∷ ks) = ended (performed s k).0 ks
 
+-- what a run answered, call after call
 abbrev pub answers_of : List Turn → List Told
 answers_of h = map (λ (t : Turn). t.answer) h

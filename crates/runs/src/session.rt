@@ -48,6 +48,7 @@ impl Session {
     {
         let grant = self.controller.take()?;
         let channel = grant.channel();
+        // A grant cannot be dropped, so the place that it goes to is seen to be empty.
         match self.grant.replace(grant) {
             None => Ok(channel),
             Some(_) => unreachable(),
