@@ -5,17 +5,15 @@ use Rattle.arbiter.specs.Groups.{Group, group_of as side_group, ServedBy, Served
 use Rattle.arbiter.proofs.Winners.{won}
 use Rattle.registers.specs.declared.file.Registers.{Registers}
 use Rattle.registers.specs.declared.ports.Dma.TheVariants.{One, Two}
-use Rattle.registers.specs.File.{with_service}
 use Rattle.controller.specs.declared.controller.Bus.{Bus}
-use Rattle.controller.specs.declared.controller.Bus.TheVariants.{Home, Out, Taken}
-use Rattle.controller.specs.Asking.{first_fetching}
 use Rattle.controller.specs.Grants.{out_to}
-use Rattle.controller.specs.Steps.{State, with_registers, begun, first_side, second_side, choice_of, choose_of, ongoing, go_or_choose, step_at}
+use Rattle.controller.specs.Steps.{State, with_registers, begun, first_side, second_side, choice_of, step_at}
 use Rattle.runs.specs.declared.calls.Call.{Call}
 use Rattle.runs.specs.declared.calls.Call.TheVariants as call
 use Rattle.runs.specs.Calls.{performed}
-use Rattle.runs.proofs.Lasts.{lasts, Left, stay, clear, write_left, read_stays, lines_stay}
-use Rattle.runs.proofs.Serving.{serve_leaves, ahead_leaves, cycle_leaves, release_leaves}
+use Rattle.runs.proofs.Stepping.{Keeps, Any, step_keeps}
+use Rattle.runs.proofs.Lasts.{lasts, channel_stays, Left, stay, clear, write_left, read_stays, lines_stay}
+use Rattle.runs.proofs.Serving.{cycle_leaves, release_leaves}
 
 -- both are slots
 abbrev pub Slots : ℕ × ℕ → Type 0
@@ -46,21 +44,27 @@ slots_noted : (k : Registers) (channel s : ℕ) (o : Option ℕ) → ServedBy (f
 slots_noted k channel s None v h = (h.0, v.2)
 slots_noted k channel s (Some d) v h = (v.2, omega (arith, v.1))
 
-slots_chosen : (s : State) (r : Option Choice) → Served (first_group s.registers) (second_group s.registers) r → Slots (lasts s.registers)
-    → Slots (lasts (choose_of s r).0.registers)
-slots_chosen s None v h = let k = s.registers in slots_stay (ahead_leaves (with_registers (with_service None k) s) (first_fetching k)) h
-slots_chosen s (Some w) v h =
+-- so a step leaves slots
+abbrev Slotted : State → Type 0
+Slotted s = Slots (lasts s.registers)
+
+slots_keep : Keeps Slotted Any
+slots_keep = record {
+  put = λ s c x h. slots_stay (channel_stays c x s.registers) h;
+  serves = λ s c g h. h;
+  idles = λ s h. h;
+  carries = λ s o h. h;
+  sends = λ s c h. h;
+}
+
+slots_begin : (s : State) (w : Choice) → choice_of s.registers ≡ Some w → Slotted s → Unit {0} × Slotted (with_registers (begun w s.registers) s)
+slots_begin s w e h =
     let k = s.registers in
-    slots_stay (serve_leaves (with_registers (begun w k) s) w.channel) (slots_noted k w.channel w.second w.first v h)
+    let P : Option Choice → Type 0 = λ o. Served (first_group k) (second_group k) o in
+    (tt, slots_noted k w.channel w.second w.first (subst P e (choice_won k).asks) h)
 
-slots_go : (s : State) (o : Option ℕ) → Slots (lasts s.registers) → Slots (lasts (go_or_choose s o).0.registers)
-slots_go s (Some c) h = slots_stay (serve_leaves s c) h
-slots_go s None h = slots_chosen s (choice_of s.registers) (choice_won s.registers).asks h
-
-slots_step : (s : State) (b : Bus) → Slots (lasts s.registers) → Slots (lasts (step_at s b).0.registers)
-slots_step s Home h = slots_go s (ongoing s.registers s.registers.service) h
-slots_step s (Out c) h = h
-slots_step s (Taken c) h = h
+slots_step : (s : State) (b : Bus) → Slotted s → Slotted (step_at s b).0
+slots_step s b h = step_keeps Slotted Any slots_keep slots_begin (λ s c e h. tt) s b h
 
 -- after every call both slots last chosen are slots
 pub slots_kept : (s : State) (k : Call) → Slots (lasts s.registers) → Slots (lasts (performed s k).0.registers)

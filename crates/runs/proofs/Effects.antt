@@ -1,5 +1,6 @@
 -- What one call does to the plan of channel c: nothing, a Stop, a transfer, or a fetch.
-use Rattle.std.proofs.Common.{◌≡◌, ℕ, ◌<◌, Bool, true, false, cond, not, ◌&&◌, eqb, ◌⊎◌, Some, None, Ok, Err, Result, sym, refl, ap, ◌∙◌, subst, inl, inr, arith}
+use Rattle.std.proofs.Common.{◌≡◌, ℕ, ◌<◌, Bool, true, false, cond, not, ◌&&◌, eqb, ◌⊎◌, Some, None, Ok, Err, Result, refl, ap, ◌∙◌, subst, inl, inr, arith}
+use Rattle.std.proofs.lemmas.Bool.{not-true, not-false, and_parts}
 use Rattle.registers.specs.declared.channel.Channel.{Channel}
 use Rattle.registers.specs.Modes.{is_cascade}
 use Rattle.registers.specs.File.{channel_of}
@@ -62,22 +63,18 @@ module _ (c : ℕ) (hc : c < 8) where
   other_fills s d (Ok x) f hd q = rests refl (rw q) (ap part_of (channel_other s.registers c d _ f hc hd q))
   other_fills s d (Err e) f hd q = rests refl refl (ap part_of (channel_other s.registers c d _ f hc hd q))
 
-  ready_or : (ch : Channel) (a l : Bool) → ch.list.active ≡ a → ch.list.loaded ≡ l → (a && not l) ≡ false → Ready ch
-  ready_or ch true true p q e = λ _. q
-  ready_or ch true false p q e = let no_way : ⊥ = (let n : ◌≡◌ {A = ℕ} 0 1 = cc in omega arith) in absurd no_way
-  ready_or ch false l p q e = λ h. (let no_way : ⊥ = (let z : true ≡ false = sym h ∙ p in let n : ◌≡◌ {A = ℕ} 0 1 = cc in omega arith) in absurd no_way)
+  ready_or : (ch : Channel) → (ch.list.active && not ch.list.loaded) ≡ false → Ready ch
+  ready_or ch e h = not-false ch.list.loaded (rw h at e)
 
-  unloaded : (ch : Channel) (a l : Bool) → ch.list.active ≡ a → ch.list.loaded ≡ l → (a && not l) ≡ true → CanFetch ch
-  unloaded ch true false p q e = (p, inl q)
-  unloaded ch true true p q e = let no_way : ⊥ = (let n : ◌≡◌ {A = ℕ} 0 1 = cc in omega arith) in absurd no_way
-  unloaded ch false l p q e = let no_way : ⊥ = (let n : ◌≡◌ {A = ℕ} 0 1 = cc in omega arith) in absurd no_way
+  unloaded : (ch : Channel) → (ch.list.active && not ch.list.loaded) ≡ true → CanFetch ch
+  unloaded ch e = let h = and_parts ch.list.active (not ch.list.loaded) e in (h.0, inl (not-true ch.list.loaded h.1))
 
   -- a channel in service, c itself or another
   own_serve : (s : State) (p q : Bool) → ((channel_of s.registers c).list.active && not (channel_of s.registers c).list.loaded) ≡ q → Four s.registers
       → Stepped c (channel_of s.registers c) s.world (settled c (cond p (lends s c) (cond q (fetch_step s c) (transfer_of s c))))
   own_serve s true q e f = rests refl refl refl
-  own_serve s false true e f = own_fills s _ refl f (unloaded (channel_of s.registers c) _ _ refl refl e)
-  own_serve s false false e f = own_moves s _ f (ready_or (channel_of s.registers c) _ _ refl refl e)
+  own_serve s false true e f = own_fills s _ refl f (unloaded (channel_of s.registers c) e)
+  own_serve s false false e f = own_moves s _ f (ready_or (channel_of s.registers c) e)
 
   other_serve : (s : State) (d : ℕ) (p q : Bool) → Four s.registers → d < 8 → eqb c d ≡ false
       → Stepped c (channel_of s.registers c) s.world (settled d (cond p (lends s d) (cond q (fetch_step s d) (transfer_of s d))))

@@ -1,5 +1,7 @@
 -- What a transfer, a fetch, a Stop and a write elsewhere leave of a list's plan.
 use Rattle.std.proofs.Common.{◌≡◌, ℕ, zero, suc, ◌+◌, ◌-◌, ◌%◌, ◌<◌, Bool, true, false, cond, not, ◌&&◌, ◌||◌, eqb, leb, List, [], ◌∷◌, ◌++◌, length, is_some, Some, None, Ok, Err, Option, sym, refl, ap, ◌∙◌, subst, ap₂, inl, inr, append_assoc, append-nil, arith}
+use Rattle.std.proofs.Math.Bool.{and-false, or-false}
+use Rattle.std.proofs.lemmas.Bool.{true≢false as never, not-true, and_parts, or_parts}
 use Rattle.memory.specs.declared.kinds.Kind.{Kind}
 use Rattle.bus.specs.declared.place.Course.{Course}
 use Rattle.bus.specs.declared.place.Place.{Place}
@@ -19,7 +21,7 @@ use Rattle.runs.specs.Words.{entries_from, ends_by_eol}
 use Rattle.runs.proofs.Parts.{Part, part_of}
 use Rattle.runs.proofs.Effects.{CanFetch}
 use Rattle.runs.proofs.Tables.{fetched_is, entry_in, entries_more, after_entry, Readable}
-use Rattle.runs.proofs.Lists.{buffer_plan, along, current_plan, reserve_plan, loaded_plan, is_closed, unfetched, Running, never, own_course, part_with, part_holding, part_mid, part_next, part_empty, signal_mid, signal_next, signal_empty}
+use Rattle.runs.proofs.Lists.{buffer_plan, along, current_plan, reserve_plan, loaded_plan, is_closed, unfetched, Running, own_course, part_with, part_holding, part_mid, part_next, part_empty, signal_mid, signal_next, signal_empty}
 
 -- what a transfer that does not signal leaves
 pub record Went (l : Course) (p p' : Part) : Type 0 where
@@ -94,17 +96,13 @@ ending p o = is_closed p || ends_by_eol (unfetched p o)
 first_long : (l : Course) (p : Place) (n : ℕ) (rest : List ℕ) → eqb 0 (length (plan l p (suc n) ++ rest)) ≡ false
 first_long l p n rest = grind arith
 
-and_false : (b : Bool) → (b && false) ≡ false
-and_false true = refl
-and_false false = refl
-
 -- what is left behind the first address
 abbrev pub behind : Course → Channel → Outside → List ℕ
 behind l ch o = (plan l (moved_place l ch.current.place) ch.current.count ++ reserve_plan l ch.list.reserve) ++ along l (unfetched (part_of ch) o)
 
 open_end : (l : Course) (es : List Entry) → false ≡ (ends_by_eol es && eqb 0 (length (along l es)))
 open_end l [] = refl
-open_end l (e ∷ es) = sym (ap (λ b. ends_by_eol (e ∷ es) && b) (longer e.entry) ∙ and_false (ends_by_eol (e ∷ es)))
+open_end l (e ∷ es) = sym (ap (λ b. ends_by_eol (e ∷ es) && b) (longer e.entry) ∙ and-false (ends_by_eol (e ∷ es)))
   where
     longer : (b : Buffer) → eqb 0 (length (buffer_plan l b ++ along l es)) ≡ false
     longer b = first_long l (entry_span b).place b.count (along l es)
@@ -114,7 +112,7 @@ module _ (l : Course) (ch : Channel) (o : Outside) (r : Running l (part_of ch)) 
       → is_some (passed ch).signal ≡ (ending (part_of ch) o && eqb 0 (length (behind l ch o)))
   ends_by false e q z re cl =
       let some : (n : ℕ) → eqb n 0 ≡ false → eqb 0 (length ((plan l (moved_place l ch.current.place) n ++ reserve_plan l ch.list.reserve) ++ along l (unfetched (part_of ch) o))) ≡ false = far in
-      signal_mid ch z ∙ sym (ap (λ b. ending (part_of ch) o && b) (some ch.current.count z) ∙ and_false (ending (part_of ch) o))
+      signal_mid ch z ∙ sym (ap (λ b. ending (part_of ch) o && b) (some ch.current.count z) ∙ and-false (ending (part_of ch) o))
     where
       far : (n : ℕ) → eqb n 0 ≡ false → eqb 0 (length ((plan l (moved_place l ch.current.place) n ++ reserve_plan l ch.list.reserve) ++ along l (unfetched (part_of ch) o))) ≡ false
       far zero h = absurd (never h)
@@ -124,7 +122,7 @@ module _ (l : Course) (ch : Channel) (o : Outside) (r : Running l (part_of ch)) 
   ends_by true (Some e) q z re cl =
       let n : ch.current.count ≡ 0 = grind arith in
       let more : eqb 0 (length (behind l ch o)) ≡ false = rw (n, re) (first_long l (entry_span e).place e.count (along l (unfetched (part_of ch) o))) in
-      signal_next ch e z r.active re ∙ sym (ap (λ b. ending (part_of ch) o && b) more ∙ and_false (ending (part_of ch) o))
+      signal_next ch e z r.active re ∙ sym (ap (λ b. ending (part_of ch) o && b) more ∙ and-false (ending (part_of ch) o))
   ends_by true None true z re cl =
       let n : ch.current.count ≡ 0 = grind arith in
       signal_empty ch true z r.active re cl ∙ rw (n, re, cl)
@@ -166,10 +164,6 @@ rest_of : (b : Bool) (x : Entry) (es : List Entry) → cond b (x ∷ []) (x ∷ 
 rest_of true x es = refl
 rest_of false x es = refl
 
-or_false : (b : Bool) → (b || false) ≡ b
-or_false true = refl
-or_false false = refl
-
 no_reserve : (e : Option Buffer) → is_loaded e ≡ false → e ≡ None
 no_reserve None h = refl
 no_reserve (Some x) h = absurd (never h)
@@ -186,8 +180,8 @@ module _ (l : Course) (ch : Channel) (o : Outside) (c : ℕ) (x : Entry) (r : Ru
       let f = facts in
       let less = f.0 in
       let n : most_entries - ch.list.entries ≡ suc (most_entries - ((ch.list.entries + 1) % 65536)) = omega arith in
-      let halted : ch.list.stopped ≡ false = stopped_not ch.list.ended ch.list.stopped q in
-      let shut : is_closed p ≡ x.last = ap₂ ◌||◌ ed (st ∙ halted) ∙ or_false x.last in
+      let halted : ch.list.stopped ≡ false = (or_parts ch.list.ended ch.list.stopped q).1 in
+      let shut : is_closed p ≡ x.last = ap₂ ◌||◌ ed (st ∙ halted) ∙ or-false x.last in
       let here : unfetched (part_of ch) o ≡ entries_from (most_entries - ch.list.entries) o ch.list.next = rw q in
       let there : unfetched p o ≡ cond x.last [] (entries_from (most_entries - ((ch.list.entries + 1) % 65536)) o x.next) =
       ap (λ b. cond b [] (entries_from (most_entries - p.entries) o p.next)) shut ∙ ap₂ (λ i a. cond x.last [] (entries_from (most_entries - i) o a)) en nx in
@@ -196,10 +190,6 @@ module _ (l : Course) (ch : Channel) (o : Outside) (c : ℕ) (x : Entry) (r : Ru
       ≡ cond x.last (x ∷ []) (x ∷ entries_from (most_entries - ((ch.list.entries + 1) % 65536)) o x.next) =
       ap (λ (y : Entry). cond y.last (y ∷ []) (y ∷ entries_from (most_entries - ((ch.list.entries + 1) % 65536)) o y.next)) (sym f.2) in
       here ∙ ap (λ i. entries_from i o ch.list.next) n ∙ step ∙ mine ∙ rest_of x.last x _ ∙ ap (λ es. x ∷ es) (sym there)
-    where
-      stopped_not : (a b : Bool) → (a || b) ≡ false → b ≡ false
-      stopped_not true b h = absurd (never h)
-      stopped_not false b h = h
 
   got_reserve : ch.list.loaded ≡ true → ch.list.reserve ≡ None → is_closed (part_of ch) ≡ false → Got l (part_of ch) (part_fetched x (part_of ch)) x o
   got_reserve ld re q = record {
@@ -210,12 +200,8 @@ module _ (l : Course) (ch : Channel) (o : Outside) (c : ℕ) (x : Entry) (r : Ru
     fetched = first_unfetched q (part_fetched x (part_of ch)) refl refl refl refl;
     place = ap (λ (y : Entry). y.next) facts.2;
     opened = q;
-    closing = shut ch.list.ended ch.list.stopped q;
+    closing = ap (λ b. x.last || b) (or_parts ch.list.ended ch.list.stopped q).1 ∙ or-false x.last;
   }
-    where
-      shut : (a b : Bool) → (a || b) ≡ false → (x.last || b) ≡ x.last
-      shut true b h = absurd (never h)
-      shut false b h = rw h (or_false x.last)
 
   got_current : ch.list.loaded ≡ false → Got l (part_of ch) (part_loaded x (part_of ch)) x o
   got_current ld =
@@ -230,12 +216,8 @@ module _ (l : Course) (ch : Channel) (o : Outside) (c : ℕ) (x : Entry) (r : Ru
         fetched = first_unfetched q (part_loaded x (part_of ch)) refl refl refl refl;
         place = ap (λ (y : Entry). y.next) facts.2;
         opened = q;
-        closing = shut ch.list.ended ch.list.stopped q;
+        closing = ap (λ b. x.last || b) (or_parts ch.list.ended ch.list.stopped q).1 ∙ or-false x.last;
       }
-    where
-      shut : (a b : Bool) → (a || b) ≡ false → (x.last || b) ≡ x.last
-      shut true b h = absurd (never h)
-      shut false b h = rw h (or_false x.last)
 
   filled_as : (p : Part) → part_of (filled x ch) ≡ p → Got l (part_of ch) p x o → Got l (part_of ch) (part_of (filled x ch)) x o
   filled_as p h g = let P : Part → Type 0 = λ y. Got l (part_of ch) y x o in subst P (sym h) g
@@ -244,17 +226,9 @@ module _ (l : Course) (ch : Channel) (o : Outside) (c : ℕ) (x : Entry) (r : Ru
   got_by false ld can = filled_as _ (part_loaded_lem x ch ld) (got_current ld)
   got_by true ld (a, inl off) = absurd (never (sym ld ∙ off))
   got_by true ld (a, inr on) =
-      let room : is_loaded ch.list.reserve ≡ false = (let h : not (ch.list.loaded && is_loaded ch.list.reserve) ≡ true = on.1 in let g : not (is_loaded ch.list.reserve) ≡ true = rw ld at h in not_true _ g) in
-      let q : is_closed (part_of ch) ≡ false = open_not ch.list.active (is_closed (part_of ch)) on.0 in
+      let room : is_loaded ch.list.reserve ≡ false = (let h : not (ch.list.loaded && is_loaded ch.list.reserve) ≡ true = on.1 in let g : not (is_loaded ch.list.reserve) ≡ true = rw ld at h in not-true _ g) in
+      let q : is_closed (part_of ch) ≡ false = not-true _ (and_parts ch.list.active (not (is_closed (part_of ch))) on.0).1 in
       filled_as _ (part_fetched_lem x ch ld) (got_reserve ld (no_reserve _ room) q)
-    where
-      not_true : (b : Bool) → not b ≡ true → b ≡ false
-      not_true true h = absurd (never (sym h))
-      not_true false h = refl
-
-      open_not : (a b : Bool) → (a && not b) ≡ true → b ≡ false
-      open_not true b h = not_true b h
-      open_not false b h = absurd (never (sym h))
 
   pub got : CanFetch ch → Got l (part_of ch) (part_of (filled x ch)) x o
   got can = got_by _ refl can

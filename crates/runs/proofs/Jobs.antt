@@ -1,5 +1,6 @@
 -- Every job of every channel, from making on and from each beginning.
 use Rattle.std.proofs.Common.{◌≡◌, ℕ, ◌-◌, ◌*◌, ◌%◌, ◌<◌, Bool, true, false, cond, ◌||◌, ltb, List, [], ◌∷◌, ◌++◌, length, get_or, Some, None, Option, sym, refl, ap, ◌∙◌, subst, ap₂, arith}
+use Rattle.std.proofs.lemmas.Bool.{true≢false as never}
 use Rattle.bus.specs.declared.place.Course.{Course}
 use Rattle.registers.specs.declared.channel.Channel.{Channel}
 use Rattle.registers.specs.Channels.{blank}
@@ -15,7 +16,7 @@ use Rattle.runs.specs.Law.{NoneBegins, ListJob, Job, Planned, Untouched, cut, cu
 use Rattle.runs.proofs.Runs.{turn_of, kept}
 use Rattle.runs.proofs.Parts.{part_of}
 use Rattle.runs.proofs.Sound.{Sound, sound_kept}
-use Rattle.runs.proofs.Lists.{list_course, along, along_is, loaded_plan, is_closed, unfetched, Running, never}
+use Rattle.runs.proofs.Lists.{list_course, along, along_is, loaded_plan, is_closed, unfetched, Running}
 use Rattle.runs.proofs.Plain.{plain_job}
 use Rattle.runs.proofs.ListJobs.{closing, table_left, list_row, along_by}
 use Rattle.runs.proofs.Started.{Fresh, begun_fresh}

@@ -1,5 +1,7 @@
 -- A list job passes the addresses of its plan, and signals with the last of a closed one, until its table is written to.
 use Rattle.std.proofs.Common.{◌≡◌, ℕ, zero, suc, ◌+◌, ◌-◌, ◌*◌, ◌<◌, Bool, true, false, cond, ◌&&◌, ◌||◌, eqb, ◌⊎◌, List, [], ◌∷◌, ◌++◌, length, get_or, take, is_some, Some, None, Option, sym, refl, ap, ◌∙◌, subst, ap₂, inl, inr, append_assoc, zero-add, arith}
+use Rattle.std.proofs.Math.Bool.{or-true}
+use Rattle.std.proofs.lemmas.Bool.{true≢false as never}
 use Rattle.bus.specs.declared.place.Course.{Course}
 use Rattle.bus.specs.Plan.{planned, plan}
 use Rattle.bus.proofs.Plans.{plan_next}
@@ -21,7 +23,7 @@ use Rattle.runs.proofs.Written.{with_stop}
 use Rattle.runs.proofs.Turns.{from, to, Effect, still, closes, moves, fetches_one, effect, move_passes, begins_signals}
 use Rattle.runs.proofs.Sound.{Sound, sound_kept}
 use Rattle.runs.proofs.Tables.{Agree, spared_agree, spared_tail, same_entries, after_entry, eight_more}
-use Rattle.runs.proofs.Lists.{along, buffer_plan, reserve_plan, loaded_plan, is_closed, unfetched, Running, never, own_course}
+use Rattle.runs.proofs.Lists.{along, buffer_plan, reserve_plan, loaded_plan, is_closed, unfetched, Running, own_course}
 use Rattle.runs.proofs.Entries.{went, ending, behind, ends, got}
 
 -- the plan that is left, where a row is to come that stops the list after so many fetches, or does not
@@ -112,10 +114,6 @@ closed_closing : (p : Part) (o : Outside) (r : Option ℕ) → is_closed p ≡ t
 closed_closing p o None e = rw e
 closed_closing p o (Some n) e = refl
 
-or_true : (b : Bool) → (b || true) ≡ true
-or_true true = refl
-or_true false = refl
-
 cut_none : (r : Option ℕ) → cut r [] ≡ []
 cut_none None = refl
 cut_none (Some zero) = refl
@@ -194,7 +192,7 @@ module _ (c : ℕ) (hc : c < 8) (l : Course) where
       let o = s.world in
       let w = (performed s k).0.world in
       let row = run (performed s k).0 ks in
-      let shut : is_closed (with_stop P) ≡ true = or_true P.ended in
+      let shut : is_closed (with_stop P) ≡ true = or-true P.ended in
       let none : unfetched (with_stop P) w ≡ [] = rw shut in
       let R : Part → Type 0 = λ q. Running l q in
       let U : List ℕ → Type 0 = λ ys. Untouched ys row in

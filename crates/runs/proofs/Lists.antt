@@ -1,5 +1,5 @@
 -- What is left of a list's plan: the current entry, the reserve, and the entries not yet fetched.
-use Rattle.std.proofs.Common.{◌≡◌, ℕ, suc, ◌-◌, Bool, true, false, cond, ◌||◌, eqb, List, [], ◌∷◌, ◌++◌, is_some, Some, None, Option, refl, ap, ◌∙◌, arith}
+use Rattle.std.proofs.Common.{◌≡◌, ℕ, suc, ◌-◌, Bool, true, false, cond, ◌||◌, eqb, List, [], ◌∷◌, ◌++◌, is_some, Some, None, Option, refl, ap, ◌∙◌}
 use Rattle.bus.specs.declared.place.Course.{Course}
 use Rattle.bus.specs.Plan.{plan}
 use Rattle.registers.specs.declared.channel.Channel.{Channel}
@@ -53,9 +53,6 @@ pub record Running (l : Course) (p : Part) : Type 0 where
   pub extended : p.loaded ≡ true → p.extended ≡ true
   pub kept : p.loaded ≡ false → p.reserve ≡ None
   pub open_list : p.loaded ≡ false → is_closed p ≡ false
-
-pub never : true ≡ false → ⊥
-never e = let n : ◌≡◌ {A = ℕ} 0 1 = cc in omega arith
 
 -- the channel's own course is the list's once an entry is loaded
 pub own_course : (l : Course) (ch : Channel) → Running l (part_of ch) → ch.list.loaded ≡ true → course_of ch ≡ l

@@ -1,5 +1,6 @@
 -- A plain job passes the addresses of its plan, and signals with the last alone.
 use Rattle.std.proofs.Common.{◌≡◌, ℕ, suc, ◌+◌, ◌-◌, ◌<◌, ◌≤◌, Bool, true, false, cond, eqb, List, [], ◌∷◌, length, is_some, Some, sym, refl, ap, ◌∙◌, subst, zero-add, arith}
+use Rattle.std.proofs.lemmas.Bool.{true≢false as never}
 use Rattle.bus.specs.Plan.{planned, plan}
 use Rattle.bus.proofs.Plans.{planned_next, length-plan, get_or-plan}
 use Rattle.registers.specs.declared.channel.Channel.{Channel}
@@ -50,9 +51,6 @@ left_next ch n f l q =
       count = rw z (ap (λ x. x - 1) l.count);
       address = λ j. sym (planned_next (course_of ch) ch.current.place j) ∙ l.address (j + 1) ∙ ap f (omega arith);
     })
-
-never : true ≡ false → ⊥
-never e = let n : ◌≡◌ {A = ℕ} 0 1 = cc in omega arith
 
 -- what is left after n' transfers of a row
 abbrev Remains : State → ℕ → ℕ → (ℕ → ℕ) → ℕ → Type 0

@@ -1,5 +1,5 @@
 -- What stays true of the registers over every run: groups of four channels, and a service of one of them.
-use Rattle.std.proofs.Common.{◌≡◌, ℕ, ◌/◌, ◌%◌, ◌<◌, Bool, true, false, cond, not, ◌&&◌, eqb, ltb, length, Some, None, Ok, Err, Option, Result, sym, refl, subst, arith}
+use Rattle.std.proofs.Common.{◌≡◌, ℕ, ◌/◌, ◌%◌, ◌<◌, Bool, true, false, cond, eqb, ltb, length, Some, None, Option, sym, refl, subst, arith}
 use Rattle.arbiter.specs.declared.groups.Choice.{Choice}
 use Rattle.arbiter.specs.Groups.{Group as Side, Served, ServedBy}
 use Rattle.registers.specs.declared.channel.Channel.{Channel}
@@ -15,26 +15,22 @@ use Rattle.registers.specs.declared.ports.WritePort.{WritePort}
 use Rattle.registers.specs.declared.ports.WritePort.TheVariants as target
 use Rattle.registers.specs.declared.ports.ReadPort.{ReadPort}
 use Rattle.registers.specs.declared.ports.ReadPort.TheVariants as source
-use Rattle.registers.specs.Modes.{is_cascade, flag}
+use Rattle.registers.specs.Modes.{flag}
 use Rattle.registers.specs.Ports.{write_port, read_port}
 use Rattle.registers.specs.Channels.{with_list_command, list_begins}
 use Rattle.registers.specs.Groups as Groups
 use Rattle.registers.specs.Groups.{flipped, with_command, with_pointer, with_masks, with_lines, without_terminals, cleared_group}
 use Rattle.registers.specs.File.{channel_of, with_channel, with_service, at_first, at_second, at_group_of, at_dma, programmed, over, over_in, picked, accepted_at, written_for, refusal_at, control_written, field_written, list_written, read_for, read_at, lined}
 use Rattle.controller.specs.declared.controller.Bus.{Bus}
-use Rattle.controller.specs.declared.controller.Bus.TheVariants.{Home, Out, Taken}
-use Rattle.controller.specs.declared.event.Event.{Event}
-use Rattle.controller.specs.declared.fault.Fault.{Fault}
-use Rattle.controller.specs.declared.fetching.Fetched.{Fetched as Found}
-use Rattle.controller.specs.Outside.{Outside}
-use Rattle.controller.specs.Passing.{passed}
+use Rattle.controller.specs.declared.controller.Bus.TheVariants.{Home}
 use Rattle.controller.specs.Asking.{goes_on, fetches, first_fetching}
 use Rattle.controller.specs.Grants.{holds, out_to, cycled}
-use Rattle.controller.specs.Steps.{State, with_registers, with_world, with_bus, begun, served, moves, fills, lends, fetch_step, transfer_of, service_of, settled, serve, ahead_of, choose_of, choice_of, ongoing, go_or_choose, step_at}
+use Rattle.controller.specs.Steps.{State, with_registers, with_world, with_bus, begun, choice_of, ongoing, step_at}
 use Rattle.runs.specs.declared.calls.Call.{Call}
 use Rattle.runs.specs.declared.calls.Call.TheVariants as call
 use Rattle.runs.specs.Calls.{performed}
 use Rattle.runs.proofs.Slots.{Four, four_with}
+use Rattle.runs.proofs.Stepping.{Keeps, step_keeps}
 use Rattle.runs.proofs.Chosen.{first_group, second_group, choice_won}
 
 -- a service of a channel below eight, if there is one
@@ -155,33 +151,6 @@ lined_sound b k s = go (flag 16 b)
     go true = s
     go false = ((refl, refl), s.1)
 
--- steps
-settled_sound : (c : ℕ) (p : State × Result Event Fault) → Sound p.0.registers → Sound (settled c p).0.registers
-settled_sound c (s, Ok e) h = h
-settled_sound c (s, Err f) h = (four_with s.registers c _ h.0, tt)
-
-served_serviced : (c : ℕ) (q : Bool) → c < 8 → Serviced (served c q)
-served_serviced c true h = tt
-served_serviced c false h = h
-
-moves_sound : (s : State) (c : ℕ) (p : Outside × Result ℕ Fault) → c < 8 → Sound s.registers → Sound (moves s c p).0.registers
-moves_sound s c (o, Ok u) hc h = (four_with s.registers c _ h.0, served_serviced c (passed (channel_of s.registers c)).over hc)
-moves_sound s c (o, Err e) hc h = h
-
-fills_sound : (s : State) (c : ℕ) (r : Result Found Fault) → Sound s.registers → Sound (fills s c r).0.registers
-fills_sound s c (Ok x) h = with_sound c _ s.registers h
-fills_sound s c (Err e) h = h
-
-either_sound : (s : State) (c : ℕ) (p q : Bool) → c < 8 → Sound s.registers → Sound (cond p (lends s c) (cond q (fetch_step s c) (transfer_of s c))).0.registers
-either_sound s c true q hc h = h
-either_sound s c false true hc h = fills_sound s c _ h
-either_sound s c false false hc h = moves_sound s c _ hc h
-
-serve_sound : (s : State) (c : ℕ) → c < 8 → Sound s.registers → Sound (serve s c).0.registers
-serve_sound s c hc h =
-    let ch = channel_of s.registers c in
-    settled_sound c (service_of s c) (either_sound s c (is_cascade ch.mode.service) (ch.list.active && not ch.list.loaded) hc h)
-
 -- the channel that wins is below eight
 won_below : (f g : Side) (channel slot : ℕ) (o : Option ℕ) → ServedBy f g channel slot o → channel < 8
 won_below f g channel slot None h = let a = h.0 in let b = h.2 in omega arith
@@ -205,14 +174,6 @@ pub ahead_below : (k : Registers) → Fetching k (first_fetching k)
 ahead_below k = first_or_fetching k 0 _ _ refl (omega arith) (first_or_fetching k 1 _ _ refl (omega arith) (first_or_fetching k 2 _ _ refl (omega arith) (first_or_fetching k 3 _ _ refl (omega arith)
     (first_or_fetching k 5 _ _ refl (omega arith) (first_or_fetching k 6 _ _ refl (omega arith) (first_or_fetching k 7 _ _ refl (omega arith) tt))))))
 
-ahead_sound : (s : State) (o : Option ℕ) → Sound s.registers → Sound (ahead_of s o).0.registers
-ahead_sound s None h = h
-ahead_sound s (Some c) h = settled_sound c (fetch_step s c) (fills_sound s c _ h)
-
-choose_sound : (s : State) (o : Option Choice) → choice_of s.registers ≡ o → Sound s.registers → Sound (choose_of s o).0.registers
-choose_sound s (Some w) e h = let b = chosen_below s.registers w e in serve_sound (with_registers (begun w s.registers) s) w.channel b (h.0, b)
-choose_sound s None e h = ahead_sound _ (first_fetching s.registers) (h.0, tt)
-
 -- a service that goes on is of a channel below eight
 pub ongoing_below : (k : Registers) (o : Option ℕ) → Serviced o → Serviced (ongoing k o)
 ongoing_below k None h = tt
@@ -222,14 +183,24 @@ ongoing_below k (Some c) h = go (goes_on k c)
     go true = h
     go false = tt
 
-go_sound : (s : State) (o : Option ℕ) → Serviced o → Sound s.registers → Sound (go_or_choose s o).0.registers
-go_sound s (Some c) b h = serve_sound s c b h
-go_sound s None b h = choose_sound s (choice_of s.registers) refl h
+-- a step leaves the registers sound
+abbrev Low : ℕ → Type 0
+Low c = c < 8
+
+sound_keeps : Keeps (λ s. Sound s.registers) Low
+sound_keeps = record {
+  put = λ s c x h. with_sound c x s.registers h;
+  serves = λ s c g h. (h.0, g);
+  idles = λ s h. (h.0, tt);
+  carries = λ s o h. h;
+  sends = λ s c h. h;
+}
+
+sound_begins : (s : State) (w : Choice) → choice_of s.registers ≡ Some w → Sound s.registers → Low w.channel × Sound (begun w s.registers)
+sound_begins s w e h = let b = chosen_below s.registers w e in (b, (h.0, b))
 
 step_sound : (s : State) (b : Bus) → Sound s.registers → Sound (step_at s b).0.registers
-step_sound s Home h = go_sound s (ongoing s.registers s.registers.service) (ongoing_below s.registers s.registers.service h.1) h
-step_sound s (Out c) h = h
-step_sound s (Taken c) h = h
+step_sound s b h = step_keeps (λ s. Sound s.registers) Low sound_keeps sound_begins (λ s c e h. subst Serviced e h.1) s b h
 
 pub sound_kept : (s : State) (k : Call) → Sound s.registers → Sound (performed s k).0.registers
 sound_kept s (call.Write p v) h = written_sound (write_port p) v s.registers h

@@ -1,5 +1,6 @@
 -- A job that begins with its list active begins with Start: nothing loaded, and the next place is the table pointer.
 use Rattle.std.proofs.Common.{◌≡◌, ℕ, ◌/◌, ◌%◌, ◌<◌, Bool, true, false, cond, not, ◌&&◌, ◌||◌, eqb, ltb, leb, get_or, is_some, Some, None, Option, sym, refl, ap, ◌∙◌, subst, arith}
+use Rattle.std.proofs.lemmas.Bool.{true≢false as never, and_parts}
 use Rattle.registers.specs.declared.channel.Channel.{Channel}
 use Rattle.registers.specs.declared.list.Entry.{Entry as Buffer}
 use Rattle.registers.specs.declared.group.Group.{Group}
@@ -29,7 +30,6 @@ use Rattle.runs.proofs.Slots.{Four, channel_same}
 use Rattle.runs.proofs.Effects.{Stepped, rests, goes, gets}
 use Rattle.runs.proofs.Turns.{step_effect}
 use Rattle.runs.proofs.Sound.{Sound}
-use Rattle.runs.proofs.Lists.{never}
 
 -- a list just started
 pub record Fresh (ch : Channel) : Type 0 where
@@ -134,19 +134,14 @@ module _ (k : Registers) (c : ℕ) (f : Four k) (hc : c < 8) where
   control_begun ClearMasks d v b e = absurd (never (sym b))
   control_begun AllMasks d v b e = absurd (never (sym b))
 
-  both : (a b : Bool) → (a && b) ≡ true → (a ≡ true) × (b ≡ true)
-  both true true h = (refl, refl)
-  both true false h = absurd (never (sym h))
-  both false b h = absurd (never (sym h))
-
   accepted_begun : (s : State) (w : WritePort) (v : ℕ) → s.registers ≡ k → eqb (refusal_at k w v) 0 ≡ true → write_begins s (Some w) v c ≡ true → Begun (channel_of (accepted_at w v k) c)
   accepted_begun s (target.Field x d) v i e b =
-      let h = both (field_begins x) (eqb c d) b in
+      let h = and_parts (field_begins x) (eqb c d) b in
       let same : d ≡ c = (let z = h.1 in grind arith) in
       let P : ℕ → Type 0 = λ j. eqb (cond (busy k j) 4 0) 0 ≡ true → Begun (channel_of (field_written x j v k) c) in
       subst P (sym same) (λ u. field_begun x v h.0 (free (busy k c) u)) e
   accepted_begun s (target.ListCommand d) v i e b =
-      let h = both (eqb c d) (list_begins_for (channel_of s.registers d) v) b in
+      let h = and_parts (eqb c d) (list_begins_for (channel_of s.registers d) v) b in
       let same : d ≡ c = (let z = h.0 in grind arith) in
       let P : ℕ → Type 0 = λ j. list_begins_for (channel_of k j) v ≡ true → Begun (channel_of (list_written j v k) c) in
       let Q : Registers → Type 0 = λ x. list_begins_for (channel_of x d) v ≡ true in
@@ -155,7 +150,7 @@ module _ (k : Registers) (c : ℕ) (f : Four k) (hc : c < 8) where
 
   pub write_begun : (s : State) (o : Option WritePort) (v : ℕ) → s.registers ≡ k → (eqb (refusal_for k o v) 0 && write_begins s o v c) ≡ true → Begun (channel_of (written_for o v k) c)
   write_begun s None v i b = absurd (never (sym b))
-  write_begun s (Some w) v i b = let h = both (eqb (refusal_at k w v) 0) (write_begins s (Some w) v c) b in rw h.0 (accepted_begun s w v i h.0 h.1)
+  write_begun s (Some w) v i b = let h = and_parts (eqb (refusal_at k w v) 0) (write_begins s (Some w) v c) b in rw h.0 (accepted_begun s w v i h.0 h.1)
 
 step_begun : (c : ℕ) (s : State) → Stepped c (channel_of s.registers c) s.world (step_of s) → begins_job c (turn_of s call.Step) ≡ true → Begun (channel_of (step_of s).0.registers c)
 step_begun c s (rests i g p) b = absurd (never (sym b ∙ ap signalled i))

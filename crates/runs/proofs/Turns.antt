@@ -1,5 +1,6 @@
 -- What one turn of a run does to the plan of channel c while its job goes on.
-use Rattle.std.proofs.Common.{◌≡◌, ℕ, ◌<◌, Bool, true, false, cond, ◌⊎◌, is_some, Some, None, Ok, Option, sym, refl, ap, ◌∙◌, subst, inl, arith}
+use Rattle.std.proofs.Common.{◌≡◌, ℕ, ◌<◌, Bool, true, false, cond, ◌⊎◌, is_some, Some, None, Ok, Option, sym, refl, ap, ◌∙◌, subst, inl}
+use Rattle.std.proofs.lemmas.Option.{none-some}
 use Rattle.arbiter.specs.declared.groups.Choice.{Choice}
 use Rattle.registers.specs.declared.channel.Channel.{Channel}
 use Rattle.registers.specs.Ports.{write_port, read_port}
@@ -105,14 +106,14 @@ module _ (c : ℕ) (hc : c < 8) where
   Passes ch m = (m.address ≡ passes ch) × (m.signal ≡ (passed ch).signal) × Ready ch
 
   step_passes : (s : State) (m : Move) → Stepped c (channel_of s.registers c) s.world (step_of s) → move_of c (turn_of s call.Step) ≡ Some m → Passes (channel_of s.registers c) m
-  step_passes s m (rests i g p) e = let z : Some m ≡ None = sym e ∙ i in let n : ◌≡◌ {A = ℕ} 0 1 = cc in absurd (omega arith)
+  step_passes s m (rests i g p) e = absurd (none-some m (sym i ∙ e))
   step_passes s m (goes j i g a sg ch r) e =
       let same : j ≡ m = (let z : Some j ≡ Some m = sym i ∙ e in cc) in
       (ap (λ (x : Move). x.address) (sym same) ∙ a, ap (λ (x : Move). x.signal) (sym same) ∙ sg, r)
-  step_passes s m (gets x i g f ch can w) e = let z : Some m ≡ None = sym e ∙ i in let n : ◌≡◌ {A = ℕ} 0 1 = cc in absurd (omega arith)
+  step_passes s m (gets x i g f ch can w) e = absurd (none-some m (sym i ∙ e))
 
   none_moved : (m : Move) (ch : Channel) → None ≡ Some m → Passes ch m
-  none_moved m ch e = let n : ◌≡◌ {A = ℕ} 0 1 = cc in absurd (omega arith)
+  none_moved m ch e = absurd (none-some m e)
 
   pub move_passes : (s : State) (k : Call) (m : Move) → Sound s.registers → move_of c (turn_of s k) ≡ Some m → Passes (channel_of s.registers c) m
   move_passes s (call.Write p v) m h e = none_moved m (channel_of s.registers c) e
@@ -126,7 +127,7 @@ module _ (c : ℕ) (hc : c < 8) where
 
   -- a transfer begins the next job of its channel if it signals
   none_begins : (m : Move) (b : Bool) → None ≡ Some m → b ≡ is_some m.signal
-  none_begins m b e = let n : ◌≡◌ {A = ℕ} 0 1 = cc in absurd (omega arith)
+  none_begins m b e = absurd (none-some m e)
 
   pub begins_signals : (s : State) (k : Call) (m : Move) → move_of c (turn_of s k) ≡ Some m → begins_job c (turn_of s k) ≡ is_some m.signal
   begins_signals s (call.Write p v) m e = none_begins m _ e

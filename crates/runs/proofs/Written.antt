@@ -1,5 +1,7 @@
 -- What a driver's access does to the plan of a channel whose job goes on: nothing, but for a Stop.
 use Rattle.std.proofs.Common.{◌≡◌, ℕ, ◌/◌, ◌%◌, ◌<◌, Bool, true, false, cond, ◌&&◌, eqb, ltb, ◌⊎◌, Some, None, Option, sym, refl, ap, ◌∙◌, inl, inr, arith}
+use Rattle.std.proofs.Math.Bool.{and-false}
+use Rattle.std.proofs.lemmas.Bool.{true≢false as never}
 use Rattle.registers.specs.declared.channel.Channel.{Channel}
 use Rattle.registers.specs.declared.group.Group.{Group}
 use Rattle.registers.specs.declared.file.Registers.{Registers}
@@ -93,7 +95,7 @@ clear_leaves Two k c e = go (ltb c 4) refl
   where
     go : (q : Bool) → ltb c 4 ≡ q → part_of (channel_of (at_second cleared_group k) c) ≡ part_of (channel_of k c)
     go true q = rw q
-    go false q = let no_way : ⊥ = (let z : true ≡ false = (rw q at e) in let n : ◌≡◌ {A = ℕ} 0 1 = cc in omega arith) in absurd no_way
+    go false q = absurd (never (rw q at e))
 
 module _ (k : Registers) (c : ℕ) (f : Four k) (hc : c < 8) where
   field_effect : (x : Field) (d v : ℕ) → d < 8 → (field_begins x && eqb c d) ≡ false → part_of (channel_of (field_written x d v k) c) ≡ part_of (channel_of k c)
@@ -117,13 +119,13 @@ module _ (k : Registers) (c : ℕ) (f : Four k) (hc : c < 8) where
   -- a list command of channel c itself
   command_effect : (v : ℕ) (a b : Bool) → eqb (v % 4) 1 ≡ a → eqb (v % 4) 2 ≡ b → list_begins v (channel_of k c) ≡ false
       → Accessed c k b (with_channel c (with_list_command v (channel_of k c)) k)
-  command_effect v true b p q e = let no_way : ⊥ = (let z : true ≡ false = (rw p at e) in let n : ◌≡◌ {A = ℕ} 0 1 = cc in omega arith) in absurd no_way
+  command_effect v true b p q e = absurd (never (rw p at e))
   command_effect v false false p q e = quiet (inl refl) (own k c c _ f hc hc (rw (p, q)))
   command_effect v false true p q e = go (channel_of k c).list.active (channel_of k c).list.loaded refl refl
     where
       go : (m n : Bool) → (channel_of k c).list.active ≡ m → (channel_of k c).list.loaded ≡ n → Accessed c k true (with_channel c (with_list_command v (channel_of k c)) k)
       go false n i j = quiet (inr i) (own k c c _ f hc hc (rw (p, q, i)))
-      go true false i j = let no_way : ⊥ = (let z : true ≡ false = (rw (p, q, i, j) at e) in let n : ◌≡◌ {A = ℕ} 0 1 = cc in omega arith) in absurd no_way
+      go true false i j = absurd (never (rw (p, q, i, j) at e))
       go true true i j = halts refl i j (ap part_of (channel_same k c _ f hc) ∙ rw (p, q, i, j))
 
   list_effect : (d v : ℕ) (q : Bool) → d < 8 → eqb c d ≡ q → (q && list_begins_for (channel_of k d) v) ≡ false → Accessed c k (q && eqb (v % 4) 2) (list_written d v k)
@@ -147,13 +149,9 @@ module _ (k : Registers) (c : ℕ) (f : Four k) (hc : c < 8) where
   at_effect s w v true i h e = accepted_effect s w v i h e
   at_effect s w v false i h e = quiet (inl refl) refl
 
-  and_false : (b : Bool) → (b && false) ≡ false
-  and_false true = refl
-  and_false false = refl
-
   pub write_effect : (s : State) (o : Option WritePort) (v : ℕ) → s.registers ≡ k → ReachesIf o → (eqb (refusal_for k o v) 0 && write_begins s o v c) ≡ false
       → Accessed c k (eqb (refusal_for k o v) 0 && stop_at o v c) (written_for o v k)
-  write_effect s None v i h e = quiet (inl (and_false (eqb 1 0))) refl
+  write_effect s None v i h e = quiet (inl (and-false (eqb 1 0))) refl
   write_effect s (Some w) v i h e = at_effect s w v (eqb (refusal_at k w v) 0) i h e
 
 -- reads and lines leave every channel's part

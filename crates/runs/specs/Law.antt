@@ -33,6 +33,7 @@ abbrev pub latest : ℕ → ℕ → List Turn → ℕ
 latest x first [] = first
 latest x first (t ∷ h) = latest x (last_stored x first (stored_bytes t)) h
 
+-- what a run carried: every unit and byte once, in order
 pub record Carried (first : Outside) (h : List Turn) (after : Outside) : Type 0 where
   -- what waited at first is what was carried to memory, in order, then what waits now
   pub waited : (c : ℕ) → first.waiting c ≡ carried_in c h ++ after.waiting c
@@ -57,11 +58,12 @@ abbrev pub transfers : ℕ → List Turn → ℕ
 transfers c [] = 0
 transfers c (t ∷ h) = cond (is_some (move_of c t)) 1 0 + transfers c h
 
--- how many entries of channel c's list a row fetches up to the first Stop, if there is one
+-- n more than a number, if there is one
 abbrev pub more : ℕ → Option ℕ → Option ℕ
 more n None = None
 more n (Some m) = Some (n + m)
 
+-- how many entries of channel c's list a row fetches up to the first Stop, if there is one
 abbrev pub cut_after : ℕ → List Turn → Option ℕ
 cut_after c [] = None
 cut_after c (t ∷ h) = cond (stops c t) (Some 0) (more (cond (is_some (fetch_of c t)) 1 0) (cut_after c h))
@@ -91,6 +93,7 @@ abbrev pub Spared : List ℕ → List (ℕ × ℕ) → Type 0
 Spared table [] = Unit {0}
 Spared table (w ∷ ws) = Misses w.0 table × Spared table ws
 
+-- no turn of a row writes to the table
 abbrev pub Untouched : List ℕ → List Turn → Type 0
 Untouched table [] = Unit {0}
 Untouched table (t ∷ h) = Spared table (stored_bytes t) × Untouched table h
@@ -116,6 +119,7 @@ ListJob c s row m = let ch = channel_of s.registers c in let es = entries_at s.w
 abbrev pub Job : ℕ → State → List Turn → Move → Type 0
 Job c s row m = PlainJob c s row m × ListJob c s row m
 
+-- each transfer of a job is the next of its plan, from making on and from each beginning
 pub record Planned (first : State) (h : List Turn) : Type 0 where
   pub made : (c : ℕ) (row rest : List Turn) (t : Turn) (m : Move) → c < 8 → h ≡ row ++ (t ∷ rest) → NoneBegins c row → move_of c t ≡ Some m → Job c first row m
   pub begun : (c : ℕ) (past row rest : List Turn) (b t : Turn) (m : Move) → c < 8 → h ≡ past ++ (b ∷ (row ++ (t ∷ rest))) → begins_job c b ≡ true
@@ -127,25 +131,29 @@ pub record Planned (first : State) (h : List Turn) : Type 0 where
 abbrev pub Asking : ℕ → State → Type 0
 Asking c s = (asks s.registers c ≡ true) × (s.registers.second.rotating ≡ true) × (c < 4 → s.registers.first.rotating ≡ true)
 
+-- the channel asks all along a row
 abbrev pub KeepsAsking : ℕ → List Turn → Type 0
 KeepsAsking c [] = Unit {0}
 KeepsAsking c (t ∷ h) = Asking c t.before × Asking c t.after × KeepsAsking c h
 
--- the services of others that begin before the channel's own
+-- a service that begins is one more to wait for, unless it is the channel's own
 abbrev pub waited : ℕ → Option ℕ → ℕ → ℕ
 waited c None n = n
 waited c (Some d) n = cond (c == d) 0 (1 + n)
 
+-- the services of others that begin before the channel's own
 abbrev pub others_first : ℕ → List Turn → ℕ
 others_first c [] = 0
 others_first c (t ∷ h) = waited c (service_begun t) (others_first c h)
 
+-- no channel that asks waits for more than so many others
 pub record Waiting (h : List Turn) : Type 0 where
   -- channels 5 to 7 wait for at most three others while the second group rotates
   pub second : (c i n : ℕ) → 4 < c → c < 8 → KeepsAsking c (take n (drop i h)) → others_first c (take n (drop i h)) ≤ 3
   -- channels 0 to 3 wait for at most fifteen while both rotate
   pub first : (c i n : ℕ) → c < 4 → KeepsAsking c (take n (drop i h)) → others_first c (take n (drop i h)) ≤ 15
 
+-- a run carries what it transfers, keeps to its plans, and lets nobody wait too long
 pub record Law (first : State) (h : List Turn) (last : State) : Type 0 where
   pub carried : Carried first.world h last.world
   pub planned : Planned first h

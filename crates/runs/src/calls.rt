@@ -1,7 +1,9 @@
 // The calls that a controller takes, and what they answer.
 use controller::event::Event;
 use controller::fault::Fault;
-use controller::grant::Cycle;
+use controller::grant::{BusRefusal, Cycle};
+use controller::inspect::Inspection;
+use registers::refusal::Refusal;
 
 // One call of the controller's eight.
 #[derive(Clone, Copy, PartialEq, Eq, Debug)]
@@ -16,36 +18,15 @@ pub enum Call {
     Release,
 }
 
-// What a call answered: the number of its refusal, 0 where it was accepted, and its values, 0 where they do not apply.
+// What a call answered. A take answers the channel of its grant, a cycle the byte that it moved.
 #[derive(Clone, Copy, PartialEq, Eq, Debug)]
 pub enum Answer {
-    Write {
-        refusal: u8,
-    },
-    Read {
-        refusal: u8,
-        value: u8,
-    },
-    Lines {
-        refusal: u8,
-    },
-    Step {
-        outcome: Result<Event, Fault>,
-    },
-    Inspect {
-        refusal: u8,
-        address: u16,
-        count: u16,
-    },
-    Take {
-        refusal: u8,
-        channel: u8,
-    },
-    Cycle {
-        refusal: u8,
-        byte: u8,
-    },
-    Release {
-        refusal: u8,
-    },
+    Write(Result<(), Refusal>),
+    Read(Result<u8, Refusal>),
+    Lines(Result<(), Refusal>),
+    Step(Result<Event, Fault>),
+    Inspect(Result<Inspection, Refusal>),
+    Take(Result<u8, BusRefusal>),
+    Cycle(Result<u8, BusRefusal>),
+    Release(Result<(), BusRefusal>),
 }

@@ -1,163 +1,76 @@
 // A controller together with the grant that it has given.
 ghost use Rattle.std.specs.Prelude.{◌≡◌};
-ghost use Rattle.registers.specs.Refusals.{shown, value_of};
-ghost use Rattle.controller.specs.Outside.{Outside, outside, Does};
-ghost use Rattle.controller.specs.Steps.{state_of};
-ghost use Rattle.controller.specs.Grants.{shown_bus, byte_in};
-ghost use Rattle.controller.specs.Inspecting.{seen_in};
+ghost use Rattle.controller.specs.Outside.{Outside, outside, outside_of, Does};
+ghost use Rattle.controller.specs.Steps.{state_of, fresh};
+ghost use Rattle.controller.specs.Grants.{out_to, released};
 ghost use Rattle.runs.specs.declared.calls.Call.TheVariants as call;
-ghost use Rattle.runs.specs.declared.calls.Answer.TheVariants as told;
-ghost use Rattle.runs.specs.Calls.{performed, Holding, Inside};
+ghost use Rattle.runs.specs.declared.calls.Answer.TheVariants as answer;
+ghost use Rattle.runs.specs.Told.{told_of};
+ghost use Rattle.runs.specs.Calls.{performed, Holding, Holding-prop};
 
 use crate::calls::{Answer, Call};
 use controller::controller::Controller;
 use controller::grant::{BusRefusal, Cycle, Grant};
-use controller::inspect::Inspection;
 use memory::Memory;
 use ports::PortBank;
-use registers::refusal::Refusal;
 
 // A controller, and the grant that is held while its bus is taken. The grant is released before both are let go.
 pub struct Session {
     pub controller: Controller,
     pub grant: Option<Grant>,
+    pub ghost held: { Holding grant controller.bus } by { Holding-prop grant controller.bus },
 }
 
-// The answers that a driver gets.
-fn write_answer(answer: Result<(), Refusal>) -> Answer
-    ensures { result ≡ told.Write (shown answer) }
+// Gives the bus back under the grant that is held; without one there is nothing to give back.
+fn give_back(controller: &mut Controller, grant: Option<Grant>) -> Result<(), BusRefusal>
+    requires { Holding grant controller.old.bus }
+    ensures { (o : Outside) → Does (performed (state_of controller.old o) call.Release) (state_of controller.new o) (told_of (answer.Release result)) }
 {
-    match answer {
-        Ok(()) => Answer::Write { refusal: 0 },
-        Err(refusal) => Answer::Write {
-            refusal: refusal.number(),
-        },
-    }
-}
-
-fn read_answer(answer: Result<u8, Refusal>) -> Answer
-    ensures { result ≡ told.Read (shown answer) (value_of answer) }
-{
-    match answer {
-        Ok(value) => Answer::Read { refusal: 0, value },
-        Err(refusal) => Answer::Read {
-            refusal: refusal.number(),
-            value: 0,
-        },
-    }
-}
-
-fn lines_answer(answer: Result<(), Refusal>) -> Answer
-    ensures { result ≡ told.Lines (shown answer) }
-{
-    match answer {
-        Ok(()) => Answer::Lines { refusal: 0 },
-        Err(refusal) => Answer::Lines {
-            refusal: refusal.number(),
-        },
-    }
-}
-
-fn inspect_answer(answer: Result<Inspection, Refusal>) -> Answer
-    ensures { result ≡ told.Inspect (shown answer) (seen_in answer).address (seen_in answer).count }
-{
-    match answer {
-        Ok(Inspection { address, count }) => Answer::Inspect {
-            refusal: 0,
-            address,
-            count,
-        },
-        Err(refusal) => Answer::Inspect {
-            refusal: refusal.number(),
-            address: 0,
-            count: 0,
-        },
-    }
-}
-
-// The answer that a bus master gets for a cycle.
-fn cycle_answer(answer: Result<u8, BusRefusal>) -> Answer
-    ensures { result ≡ told.Cycle (shown_bus answer) (byte_in answer) }
-{
-    match answer {
-        Ok(byte) => Answer::Cycle { refusal: 0, byte },
-        Err(refusal) => Answer::Cycle {
-            refusal: refusal.number(),
-            byte: 0,
-        },
-    }
+    let grant = grant.ok_or(BusRefusal::NotGranted)?;
+    controller.release(grant).unwrap();
+    Ok(())
 }
 
 impl Session {
-    // Takes the bus, and holds the grant.
-    fn take(&mut self) -> Answer
-        requires { Holding self.old.grant self.old.controller.bus }
-        ensures does { (o : Outside) → Does (performed (state_of self.old.controller o) call.Take) (state_of self.new.controller o) result }
-        ensures holding { Holding self.new.grant self.new.controller.bus }
+    // A new controller, whose bus nobody holds.
+    pub(crate) fn new() -> Session
+        ensures { (o : Outside) → state_of result.controller o ≡ fresh o }
     {
-        match self.controller.take() {
-            Err(refusal) => Answer::Take {
-                refusal: refusal.number(),
-                channel: 0,
-            },
-            Ok(grant) => {
-                let channel = grant.channel();
-                match self.grant.replace(grant) {
-                    None => {}
-                    Some(_) => unreachable(),
-                }
-                Answer::Take {
-                    refusal: 0,
-                    channel,
-                }
-            }
+        Session {
+            controller: Controller::new(),
+            grant: None,
+        }
+    }
+
+    // Takes the bus, and holds the grant.
+    fn take(&mut self) -> Result<u8, BusRefusal>
+        ensures { (o : Outside) → Does (performed (state_of self.old.controller o) call.Take) (state_of self.new.controller o) (told_of (answer.Take result)) }
+    {
+        let grant = self.controller.take()?;
+        let channel = grant.channel();
+        // A grant cannot be dropped, so the place that it goes to is seen to be empty.
+        match self.grant.replace(grant) {
+            None => Ok(channel),
+            Some(_) => unreachable(),
         }
     }
 
     // A cycle under the grant that is held; without one there is no cycle.
-    fn cycle<M: Memory>(&self, memory: &mut M, cycle: Cycle) -> Answer
-        requires { Holding self.now.grant self.now.controller.bus }
-        ensures does { (o : Outside) → o.kinds ≡ M.kind_at memory.old → o.bytes ≡ M.byte_at memory.old → Does (performed (state_of self.now.controller o) (call.Cycle cycle)) (state_of self.now.controller (outside (M.kind_at memory.new) (M.byte_at memory.new) o.waiting o.kept o.free)) result }
+    fn cycle<M: Memory>(&self, memory: &mut M, cycle: Cycle) -> Result<u8, BusRefusal>
+        ensures does { (o : Outside) → o.kinds ≡ M.kind_at memory.old → o.bytes ≡ M.byte_at memory.old → Does (performed (state_of self.now.controller o) (call.Cycle cycle)) (state_of self.now.controller (outside (M.kind_at memory.new) (M.byte_at memory.new) o.waiting o.kept o.free)) (told_of (answer.Cycle result)) }
         ensures lenders { M.fixed memory.new ≡ M.fixed memory.old }
     {
         match &self.grant {
-            None => cycle_answer(Err(BusRefusal::NotGranted)),
-            Some(grant) => cycle_answer(self.controller.cycle(grant, memory, cycle)),
+            None => Err(BusRefusal::NotGranted),
+            Some(grant) => self.controller.cycle(grant, memory, cycle),
         }
     }
 
     // Releases the grant that is held.
-    fn release(&mut self) -> Answer
-        requires { Holding self.old.grant self.old.controller.bus }
-        ensures does { (o : Outside) → Does (performed (state_of self.old.controller o) call.Release) (state_of self.new.controller o) result }
-        ensures holding { Holding self.new.grant self.new.controller.bus }
+    fn release(&mut self) -> Result<(), BusRefusal>
+        ensures { (o : Outside) → Does (performed (state_of self.old.controller o) call.Release) (state_of self.new.controller o) (told_of (answer.Release result)) }
     {
-        match self.grant.take() {
-            None => Answer::Release {
-                refusal: BusRefusal::NotGranted.number(),
-            },
-            Some(grant) => match self.controller.release(grant) {
-                Ok(()) => Answer::Release { refusal: 0 },
-                Err(_) => unreachable(),
-            },
-        }
-    }
-
-    // The calls that reach neither memory nor bank.
-    fn perform_inside(&mut self, call: Call) -> Answer
-        requires { (Inside call) × (Holding self.old.grant self.old.controller.bus) }
-        ensures does { (o : Outside) → Does (performed (state_of self.old.controller o) call) (state_of self.new.controller o) result }
-        ensures holding { Holding self.new.grant self.new.controller.bus }
-    {
-        match call {
-            Call::Write { port, value } => write_answer(self.controller.write(port, value)),
-            Call::Read { port } => read_answer(self.controller.read(port)),
-            Call::Lines { bits } => lines_answer(self.controller.lines(bits)),
-            Call::Inspect { channel } => inspect_answer(self.controller.inspect(channel)),
-            Call::Take => self.take(),
-            Call::Release => self.release(),
-            Call::Step | Call::Cycle { .. } => unreachable(),
-        }
+        give_back(&mut self.controller, self.grant.take())
     }
 
     // One call, through the public method that it names.
@@ -167,17 +80,30 @@ impl Session {
         bank: &mut B,
         call: Call,
     ) -> Answer
-        requires { Holding self.old.grant self.old.controller.bus }
-        ensures does { Does (performed (state_of self.old.controller (outside (M.kind_at memory.old) (M.byte_at memory.old) (B.waiting bank.old) (B.kept bank.old) (B.free bank.old))) call) (state_of self.new.controller (outside (M.kind_at memory.new) (M.byte_at memory.new) (B.waiting bank.new) (B.kept bank.new) (B.free bank.new))) result }
-        ensures holding { Holding self.new.grant self.new.controller.bus }
+        ensures does { Does (performed (state_of self.old.controller (outside_of M.Memory B.PortBank memory.old bank.old)) call) (state_of self.new.controller (outside_of M.Memory B.PortBank memory.new bank.new)) (told_of result) }
         ensures lenders { M.fixed memory.new ≡ M.fixed memory.old }
     {
         match call {
-            Call::Step => Answer::Step {
-                outcome: self.controller.step(memory, bank),
-            },
-            Call::Cycle { cycle } => self.cycle(memory, cycle),
-            _ => self.perform_inside(call),
+            Call::Write { port, value } => Answer::Write(self.controller.write(port, value)),
+            Call::Read { port } => Answer::Read(self.controller.read(port)),
+            Call::Lines { bits } => Answer::Lines(self.controller.lines(bits)),
+            Call::Step => Answer::Step(self.controller.step(memory, bank)),
+            Call::Inspect { channel } => Answer::Inspect(self.controller.inspect(channel)),
+            Call::Take => Answer::Take(self.take()),
+            Call::Cycle { cycle } => Answer::Cycle(self.cycle(memory, cycle)),
+            Call::Release => Answer::Release(self.release()),
         }
+    }
+
+    // Lets the session go: a grant that is held is released.
+    pub fn end(self) -> Controller
+        ensures { (o : Outside) → state_of result o ≡ released (out_to self.controller.bus) (state_of self.controller o) }
+    {
+        let Session {
+            mut controller,
+            grant,
+        } = self;
+        let _ = give_back(&mut controller, grant);
+        controller
     }
 }

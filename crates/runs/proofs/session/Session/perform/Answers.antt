@@ -1,18 +1,44 @@
-use Rattle.std.proofs.Common.{ap}
-use Rattle.controller.specs.Outside.{outside}
-use Rattle.controller.specs.Steps.{State, state_of}
-use Rattle.runs.specs.declared.calls.Answer.TheVariants as told
-use Rattle.runs.proofs.Held.{by_call, still_held}
+use Rattle.std.proofs.Common.{ap, ap₂}
+use Rattle.controller.specs.Outside.{outside_of}
+use Rattle.controller.specs.Steps.{State, state_of, step_of}
+use Rattle.controller.specs.declared.inspect.Inspection.{Inspection}
+use Rattle.runs.specs.Told as told
+use Rattle.runs.proofs.Held.{keeps, still_held}
 use Rattle.runs.proofs.Buses.{step_holding}
 use Rattle.runs.proofs.session.Session.perform.Goals as goal
 
-pub returns-in-Step : goal.returns-in-Step
-returns-in-Step g c =
-    let s : State = state_of c.args.self.now.controller (outside (g.M.Memory.kind_at c.args.memory.now) (g.M.Memory.byte_at c.args.memory.now)
-    (g.B.PortBank.waiting c.args.bank.now) (g.B.PortBank.kept c.args.bank.now) (g.B.PortBank.free c.args.bank.now)) in
-    let does = c.step.ensures.does in
-    record {
-      does = by_call s _ _ _ _ c.in-Step.is (record { state = does.state; answer = ap told.Step does.answer });
-      holding = still_held c.args.self.now.grant _ _ (ap (λ (x : State). x.bus) does.state) (step_holding c.args.self.now.grant s c.requires);
-      lenders = c.step.ensures.lenders;
-    }
+pub invariant_of-self : goal.invariant_of-self
+invariant_of-self g c = let was = c.args.self.now in record { held = keeps was.grant was.controller c.write.new.self _ c.write.ensures.state was.held }
+
+pub invariant_of-self-in-Read : goal.invariant_of-self-in-Read
+invariant_of-self-in-Read g c = let was = c.args.self.now in record { held = keeps was.grant was.controller c.read.new.self _ c.read.ensures.state was.held }
+
+pub invariant_of-self-in-Lines : goal.invariant_of-self-in-Lines
+invariant_of-self-in-Lines g c = let was = c.args.self.now in record { held = keeps was.grant was.controller c.lines.new.self _ c.lines.ensures.state was.held }
+
+pub invariant_of-self-in-Step : goal.invariant_of-self-in-Step
+invariant_of-self-in-Step g c =
+    let was = c.args.self.now in
+    let s : State = state_of was.controller (outside_of g.M.Memory g.B.PortBank c.args.memory.now c.args.bank.now) in
+    record { held = still_held was.grant (step_of s).0.bus c.step.new.self.bus (ap (λ (x : State). x.bus) c.step.ensures.does.state) (step_holding was.grant s was.held) }
+
+pub invariant_of-self-in-Inspect : goal.invariant_of-self-in-Inspect
+invariant_of-self-in-Inspect g c = let was = c.args.self.now in record { held = keeps was.grant was.controller c.inspect.new.self was.controller.registers c.inspect.ensures.state was.held }
+
+pub returns-in-Write-clause-does : goal.returns-in-Write-clause-does
+returns-in-Write-clause-does g c = rw c.in-Write.is (record { state = c.write.ensures.state _; answer = ap told.Write c.write.ensures.answer })
+
+pub returns-in-Read-clause-does : goal.returns-in-Read-clause-does
+returns-in-Read-clause-does g c = rw c.in-Read.is (record { state = c.read.ensures.state _; answer = ap₂ told.Read c.read.ensures.answer c.read.ensures.value })
+
+pub returns-in-Lines-clause-does : goal.returns-in-Lines-clause-does
+returns-in-Lines-clause-does g c = rw c.in-Lines.is (record { state = c.lines.ensures.state _; answer = ap told.Lines c.lines.ensures.answer })
+
+pub returns-in-Inspect-clause-does : goal.returns-in-Inspect-clause-does
+returns-in-Inspect-clause-does g c = rw c.in-Inspect.is (record {
+  state = c.inspect.ensures.state _;
+  answer = ap₂ (λ n (x : Inspection). told.Inspect n x.address x.count) c.inspect.ensures.answer c.inspect.ensures.value;
+})
+
+pub returns-in-Take-clause-does : goal.returns-in-Take-clause-does
+returns-in-Take-clause-does g c = rw c.in-Take.is (c.take.ensures _)

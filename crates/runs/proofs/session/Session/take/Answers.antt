@@ -1,31 +1,29 @@
-use Rattle.std.proofs.Common.{Some, sym, ◌∙◌, subst, ap₂}
-use Rattle.controller.specs.declared.controller.Bus.{Bus}
-use Rattle.controller.specs.Steps.{with_bus, state_of}
-use Rattle.controller.specs.Grants.{took_bus}
-use Rattle.runs.specs.Calls.{Holding}
-use Rattle.runs.specs.declared.calls.Answer.TheVariants as told
-use Rattle.runs.proofs.Held.{refusal_shows, not_taken, taken, bus_of}
+use Rattle.std.proofs.Common.{◌∙◌, ap₂}
+use Rattle.std.proofs.lemmas.Result.{err_from_is_err_and}
+use Rattle.runs.specs.Told as told
+use Rattle.runs.proofs.Held.{taken, not_taken}
 use Rattle.runs.proofs.session.Session.take.Goals as goal
 
-pub returns-in-Err : goal.returns-in-Err
-returns-in-Err c =
-    let was = c.args.self.now.controller in
-    let held = not_taken c.args.self.now.grant was.bus _ c.requires (refusal_shows c.in-Err.refusal) c.in-Err.ensures.answer in
-    let here = bus_of c.take.new.self (λ o. with_bus (took_bus was.bus) (state_of was o)) c.take.ensures.state in
-    let P : Bus → Type 0 = λ b. Holding c.args.self.now.grant b in
-    record {
-      does = λ o. record { state = c.take.ensures.state o; answer = ap₂ told.Take (c.number.ensures ∙ c.in-Err.ensures.answer) (sym held.1) };
-      holding = subst P (sym here) held.0;
-    }
+pub invariant_of-self : goal.invariant_of-self
+invariant_of-self c =
+    let was = c.args.self.now in
+    record { held = (not_taken was.grant was.controller c.take.new.self c.in_err-grant.field-0.0 c.take.ensures.state c.in_err-grant.ensures.answer was.held).0 }
 
-pub returns-in-None : goal.returns-in-None
-returns-in-None c =
+pub returns-in_err-grant : goal.returns-in_err-grant
+returns-in_err-grant c =
+    let was = c.args.self.now in
+    let n = not_taken was.grant was.controller c.take.new.self c.in_err-grant.field-0.0 c.take.ensures.state c.in_err-grant.ensures.answer was.held in
+    let e = err_from_is_err_and c.from_residual.result c.from_residual.ensures.1 in
+    λ o. record { state = c.take.ensures.state o; answer = rw (e.1, e.2) (ap₂ told.Take c.in_err-grant.ensures.answer n.1) }
+
+pub invariant_of-self-2 : goal.invariant_of-self-2
+invariant_of-self-2 c =
     let was = c.args.self.now.controller in
-    let grant = c.in-Ok.grant in
-    let held = taken grant was.bus c.in-Ok.ensures.answer c.in-Ok.ensures.grant in
-    let here = bus_of c.take.new.self (λ o. with_bus (took_bus was.bus) (state_of was o)) c.take.ensures.state in
-    let P : Bus → Type 0 = λ b. Holding (Some grant) b in
-    record {
-      does = λ o. record { state = c.take.ensures.state o; answer = ap₂ told.Take c.in-Ok.ensures.answer (c.channel-channel.ensures ∙ sym held.1) };
-      holding = rw c.replace.ensures.after (subst P (sym here) held.0);
-    }
+    let t = taken c.in_ok-grant.grant was c.take.new.self c.take.ensures.state c.in_ok-grant.ensures.answer c.in_ok-grant.ensures.grant in
+    record { held = rw c.replace.ensures.after t.0 }
+
+pub returns : goal.returns
+returns c =
+    let was = c.args.self.now.controller in
+    let t = taken c.in_ok-grant.grant was c.take.new.self c.take.ensures.state c.in_ok-grant.ensures.answer c.in_ok-grant.ensures.grant in
+    λ o. record { state = c.take.ensures.state o; answer = ap₂ told.Take c.in_ok-grant.ensures.answer (c.channel-channel.ensures ∙ t.1) }
