@@ -3,5 +3,6 @@
 
 pub mod command;
 pub mod fault;
+pub mod progress;
 pub mod reader;
 pub mod writer;
