@@ -1,6 +1,7 @@
 -- Steps one after the other.
-use Rattle.std.proofs.Common.{◌≡◌, ℕ, zero, suc, ◌+◌, ◌-◌, ◌<◌, ◌≤◌, Bool, true, false, eqb, List, ◌++◌, Result, sym, refl, ap, ◌∙◌, arith}
+use Rattle.std.proofs.Common.{◌≡◌, ℕ, zero, suc, ◌+◌, ◌-◌, ◌<◌, ◌≤◌, Bool, true, false, eqb, ◌++◌, Result, sym, refl, ap, ◌∙◌, arith}
 use Rattle.std.proofs.lemmas.Bool.{cond-true, cond-false}
+use Rattle.std.specs.Int.{from_bool}
 use Rattle.std.specs.Option.{option_to_list}
 use Rattle.tape.specs.Tapes.{room}
 use Rattle.controller.specs.declared.event.Event.{Event}
@@ -8,8 +9,7 @@ use Rattle.controller.specs.declared.fault.Fault.{Fault}
 use Rattle.controller.specs.Outside.{Outside, Does}
 use Rattle.controller.specs.Steps.{State, step_of}
 use Rattle.script.specs.Commands.{Step}
-use Rattle.runner.specs.declared.notice.Notice.{Notice}
-use Rattle.runner.specs.declared.answer.Answer.TheVariants as answer
+use Rattle.runner.specs.Told as told
 use Rattle.runner.specs.Notices.{notice_of, is_transfer}
 use Rattle.runner.specs.declared.desk.Desk.{Desk}
 use Rattle.runner.specs.Plays.{Run, run_at, is_full, step_once, no_steps, after, one, steps_of, played}
@@ -20,16 +20,12 @@ unfolding room
 full_room d o = refl
 
 -- one step, with its notice last
-pub once : (r : Run) (s t : State) (e : Result Event Fault) (ns : List Notice) (n : ℕ) (moved : Bool) → Does (step_of r.state) s e → t ≡ s
-    → ns ≡ r.notices ++ option_to_list (notice_of e) → n ≡ r.cells → moved ≡ is_transfer e → Does (step_once r) (record { state = t; notices = ns; cells = n }) moved
+pub once : (r : Run) {s : State} {e : Result Event Fault} → Does (step_of r.state) s e → Does (step_once r) (record { state = s; notices = r.notices ++ option_to_list (notice_of e); cells = r.cells }) (is_transfer e)
 unfolding step_once
-once r s t e ns n moved does same notices cells transfer =
-    let p = same ∙ does.state in
-    let q = does.answer in
-    record {
-      state = λ i. record { state = p i; notices = (notices ∙ ap (λ x. r.notices ++ option_to_list (notice_of x)) q) i; cells = cells i };
-      answer = transfer ∙ ap is_transfer q;
-    }
+once r does = record {
+  state = λ i. record { state = does.state i; notices = r.notices ++ option_to_list (notice_of (does.answer i)); cells = r.cells };
+  answer = ap is_transfer does.answer;
+}
 
 -- no step, a step with a full tape, and a step without
 steps_none : (r : Run) → steps_of 0 r ≡ no_steps r
@@ -44,6 +40,11 @@ steps_full (suc n) r full = cond-true _ _ _ full
 steps_one : (n m : ℕ) (r : Run) → n ≡ suc m → is_full r ≡ false → steps_of n r ≡ after 1 (one (step_once r).1) (steps_of m (step_once r).0)
 unfolding steps_of
 steps_one n m r e free = ap (λ k. steps_of k r) e ∙ cond-false _ _ _ free
+
+-- a step counts as the number of its answer
+pub one_is : (moved : Bool) → from_bool moved ≡ one moved
+one_is true = refl
+one_is false = refl
 
 -- some steps of a row are done, and the others go on from where they led
 pub record Stepping (count : ℕ) (first here : Run) (steps transfers : ℕ) : Type 0 where
@@ -85,18 +86,20 @@ module _ {count : ℕ} {first here : Run} {steps transfers : ℕ} (so : Stepping
       }
 
   -- the row is done
-  ends : steps_of (count - steps) here ≡ no_steps here → Does (played (Step count) first) here (answer.Step steps transfers)
+  ends : steps_of (count - steps) here ≡ no_steps here → Does (played (Step count) first) here (told.Step steps transfers)
   ends end =
       let n : steps + 0 ≡ steps = omega arith in
       let m : transfers + 0 ≡ transfers = omega arith in
       let all : steps_of count first ≡ record { run = here; steps = steps; transfers = transfers } =
       so.row ∙ ap (after steps transfers) end ∙ (λ i. record { run = here; steps = n i; transfers = m i }) in
-      record { state = ap (λ s. s.run) (sym all); answer = ap (λ s. answer.Step s.steps s.transfers) (sym all) }
+      record { state = ap (λ s. s.run) (sym all); answer = ap (λ s. told.Step s.steps s.transfers) (sym all) }
 
-  pub stepping_full : is_full here ≡ true → Does (played (Step count) first) here (answer.Step steps transfers)
+  pub stepping_full : is_full here ≡ true → Does (played (Step count) first) here (told.Step steps transfers)
   stepping_full full = ends (steps_full (count - steps) here full)
 
-  pub stepping_done : count ≤ steps → Does (played (Step count) first) here (answer.Step steps transfers)
+  pub stepping_done : count ≤ steps → Does (played (Step count) first) here (told.Step count transfers)
   stepping_done done =
       let none : count - steps ≡ 0 = omega arith in
-      ends (ap (λ k. steps_of k here) none ∙ steps_none here)
+      let all : count ≡ steps = omega (arith, so.within) in
+      let row = ends (ap (λ k. steps_of k here) none ∙ steps_none here) in
+      record { state = row.state; answer = ap (λ n. told.Step n transfers) all ∙ row.answer }

@@ -1,9 +1,13 @@
 -- The run that a host calls: what its controller works on, and what the host finds afterwards.
 use Rattle.std.specs.Prelude.{ℕ, true, cond, List, [], length}
+use Rattle.memory.specs.declared.blocks.BlockFault.{BlockFault}
 use Rattle.memory.specs.declared.blocks.BlockFault.TheVariants.{DoesNotFit}
 use Rattle.memory.specs.Blocks.{block_number, fits_at, kind_of_all, kind_from, byte_from, list_from}
 use Rattle.ports.specs.Ramps.{counting}
 use Rattle.controller.specs.Outside.{Outside, outside}
+use Rattle.script.specs.declared.progress.Progress.{Progress}
+use Rattle.script.specs.Faults.{refusal_of}
+use Rattle.runner.specs.declared.host.Outcome.{Outcome}
 use Rattle.runner.specs.Plays.{opened}
 use Rattle.runner.specs.Runs.{Ran, ended, run_of}
 
@@ -18,3 +22,11 @@ host_run script bytes n = cond (fits_at 0 (length bytes)) (run_of script n (open
 -- the host's bytes afterwards: what its memory shows then; as they were if they are too many
 abbrev pub host_bytes : List ℕ → List ℕ → ℕ → List ℕ
 host_bytes script bytes n = cond (fits_at 0 (length bytes)) (list_from (host_run script bytes n).run.state.world.bytes 0 (length bytes)) bytes
+
+-- what a host finds of a run: the number of what ended it, 0 if that was the script's end, and how many bytes were answered
+abbrev pub outcome_of : Progress → Outcome
+outcome_of progress = record { refusal = refusal_of progress.refusal; length = progress.done }
+
+-- what a host finds whose bytes are too many: the refusal's number, and no answer
+abbrev pub outcome_refused : BlockFault → Outcome
+outcome_refused fault = record { refusal = block_number fault; length = 0 }

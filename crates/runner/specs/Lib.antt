@@ -1,6 +1,6 @@
 -- What the contracts of a run cite.
-pub mod Worlds
 pub mod Notices
+pub mod Told
 pub mod Answers
 pub mod Plays
 pub mod Runs

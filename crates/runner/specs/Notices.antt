@@ -7,33 +7,49 @@ use Rattle.controller.specs.declared.event.Event.TheVariants.{Idle, Away, Lent, 
 use Rattle.controller.specs.declared.fault.Fault.{Fault}
 use Rattle.controller.specs.Faults.{cause_number}
 use Rattle.runner.specs.declared.notice.Notice.{Notice}
+use Rattle.runner.specs.declared.notice.Notice.TheVariants as notice
 
--- a notice by its parts
-abbrev pub notice_at : ℕ → ℕ → ℕ → Notice
-notice_at channel cause address = record { channel = channel; cause = cause; address = address }
-
--- a blank notice is zero throughout
+-- a blank notice, which no step gives: EOP of channel 0
 abbrev pub blank_notice : Notice
-blank_notice = notice_at 0 0 0
+blank_notice = notice.Signal 0 Eop
+
+-- a notice by its numbers, as a script's answer shows it
+pub record NoticeNumbers : Type 0 where
+  pub channel : ℕ
+  pub cause : ℕ
+  pub address : ℕ
+
+-- a notice's numbers by their parts
+abbrev pub numbers_at : ℕ → ℕ → ℕ → NoticeNumbers
+numbers_at channel cause address = record { channel = channel; cause = cause; address = address }
+
+-- where there is no notice, its numbers are zero
+abbrev pub no_numbers : NoticeNumbers
+no_numbers = numbers_at 0 0 0
 
 -- the cause of a signal: 101 EOP, 102 IRQ13
 abbrev pub signal_cause : Signal → ℕ
 signal_cause Eop = 101
 signal_cause Irq13 = 102
 
--- a signal is noticed with its channel and address 0
+-- a signal has its channel and address 0, a fault its number, channel and address
+abbrev pub numbers_of : Notice → NoticeNumbers
+numbers_of (notice.Signal c s) = numbers_at c (signal_cause s) 0
+numbers_of (notice.Fault f) = numbers_at f.channel (cause_number f.cause) f.address
+
+-- a signal is noticed with its channel
 abbrev pub signalled : ℕ → Option Signal → Option Notice
 signalled c None = None
-signalled c (Some s) = Some (notice_at c (signal_cause s) 0)
+signalled c (Some s) = Some (notice.Signal c s)
 
--- what a step gives notice of: the signal of its transfer, or its fault with the fault's number, channel and address
+-- what a step gives notice of: the signal of its transfer, or its fault
 abbrev pub notice_of : Result Event Fault → Option Notice
 notice_of (Ok Idle) = None
 notice_of (Ok Away) = None
 notice_of (Ok (Lent c)) = None
 notice_of (Ok (Fetched c a)) = None
 notice_of (Ok (Moved c a u s)) = signalled c s
-notice_of (Err f) = Some (notice_at f.channel (cause_number f.cause) f.address)
+notice_of (Err f) = Some (notice.Fault f)
 
 -- whether a step was a transfer
 abbrev pub is_transfer : Result Event Fault → Bool

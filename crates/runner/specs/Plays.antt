@@ -1,8 +1,6 @@
 -- What each command of a script does, and what it answers.
-use Rattle.std.specs.Prelude.{ℕ, zero, suc, ◌+◌, ◌-◌, Bool, cond, List, [], ◌∷◌, ◌++◌, length, Ok, Err, Result, ◌==◌}
+use Rattle.std.specs.Prelude.{ℕ, zero, suc, ◌+◌, ◌-◌, Bool, cond, List, [], ◌∷◌, ◌++◌, length, Result, ◌==◌}
 use Rattle.std.specs.Option.{option_to_list}
-use Rattle.memory.specs.declared.kinds.MemoryFault.{MemoryFault}
-use Rattle.memory.specs.Faults.{memory_number}
 use Rattle.memory.specs.Puts.{put_of, put_bytes}
 use Rattle.tape.specs.declared.lines.TapeFault.TheVariants.{Empty}
 use Rattle.tape.specs.Lines.{rest_of}
@@ -14,10 +12,11 @@ use Rattle.controller.specs.Outside.{Outside}
 use Rattle.controller.specs.Steps.{State, state_of, fresh, with_registers, with_world, step_of}
 use Rattle.script.specs.Commands.{Order, Out, In, Lines, Step, Put, Next}
 use Rattle.runner.specs.declared.notice.Notice.{Notice}
-use Rattle.runner.specs.declared.answer.Answer.{Answer}
-use Rattle.runner.specs.declared.answer.Answer.TheVariants as answer
 use Rattle.runner.specs.declared.desk.Desk.{Desk}
-use Rattle.runner.specs.Notices.{blank_notice, notice_of, is_transfer}
+use Rattle.runner.specs.Notices.{no_numbers, numbers_of, notice_of, is_transfer}
+use Rattle.runner.specs.Told as told
+use Rattle.runner.specs.Told.{Told}
+use Rattle.runner.specs.Answers.{put_shown}
 
 -- a run at one moment: the controller with its world, the notices that wait, the oldest first, and the cells of their tape
 pub record Run : Type 0 where
@@ -76,25 +75,20 @@ unfoldable pub steps_of : ℕ → Run → Stepped
 steps_of zero r = no_steps r
 steps_of (suc n) r = cond (is_full r) (no_steps r) (after 1 (one (step_once r).1) (steps_of n (step_once r).0))
 
--- the number that a write of eight bytes shows: 0 where it is accepted
-abbrev pub put_shown : Result (Unit {0}) MemoryFault → ℕ
-put_shown (Ok u) = 0
-put_shown (Err e) = memory_number e
-
 -- a world after a write of eight bytes
 abbrev pub put_into : ℕ → List ℕ → Outside → Outside
 put_into address bytes o = record { kinds = o.kinds; bytes = put_bytes o.kinds o.bytes address bytes; waiting = o.waiting; kept = o.kept; free = o.free }
 
 -- the oldest notice, or 62 and zeros
-abbrev pub next_of : List Notice → Answer
-next_of [] = answer.Next (tape_number Empty) blank_notice
-next_of (n ∷ ns) = answer.Next 0 n
+abbrev pub next_of : List Notice → Told
+next_of [] = told.Next (tape_number Empty) no_numbers
+next_of (n ∷ ns) = told.Next 0 (numbers_of n)
 
--- THE COMMANDS: what each leaves and answers
-abbrev pub played : Order → Run → Run × Answer
-played (Out port value) r = (with_state (with_registers (written port value r.state.registers) r.state) r, answer.Out (write_number r.state.registers port value))
-played (In port) r = (with_state (with_registers (read_leaves port r.state.registers) r.state) r, answer.In (read_number port) (read_value r.state.registers port))
-played (Lines bits) r = (with_state (with_registers (lined bits r.state.registers) r.state) r, answer.Lines (lines_number bits))
-played (Step count) r = ((steps_of count r).run, answer.Step (steps_of count r).steps (steps_of count r).transfers)
-played (Put address bytes) r = (with_state (with_world (put_into address bytes r.state.world) r.state) r, answer.Put (put_shown (put_of r.state.world.kinds address)))
+-- THE COMMANDS: what each leaves and tells
+abbrev pub played : Order → Run → Run × Told
+played (Out port value) r = (with_state (with_registers (written port value r.state.registers) r.state) r, told.Out (write_number r.state.registers port value))
+played (In port) r = (with_state (with_registers (read_leaves port r.state.registers) r.state) r, told.In (read_number port) (read_value r.state.registers port))
+played (Lines bits) r = (with_state (with_registers (lined bits r.state.registers) r.state) r, told.Lines (lines_number bits))
+played (Step count) r = ((steps_of count r).run, told.Step (steps_of count r).steps (steps_of count r).transfers)
+played (Put address bytes) r = (with_state (with_world (put_into address bytes r.state.world) r.state) r, told.Put (put_shown (put_of r.state.world.kinds address)))
 played Next r = (with_notices (rest_of r.notices) r, next_of r.notices)

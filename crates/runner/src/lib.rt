@@ -12,7 +12,7 @@ mod worked;
 
 pub use answer::Answer;
 pub use desk::Desk;
-pub use host::sillmint_run;
+pub use host::{Outcome, sillmint_run};
 pub use notice::Notice;
-pub use runs::{NOTICES, Outcome, run};
+pub use runs::{NOTICES, run};
 pub use worked::worked_scripts;

@@ -1,39 +1,48 @@
 // Notices: what a step has to tell besides its answer.
 ghost use Rattle.std.specs.Prelude.{◌≡◌};
-ghost use Rattle.runner.specs.Notices.{blank_notice, signal_cause, notice_of, is_transfer};
+ghost use Rattle.runner.specs.Notices.{blank_notice, numbers_of, notice_of, is_transfer};
 
 use controller::event::Event;
 use controller::fault::Fault;
 use registers::list::Signal;
 use tape::Blank;
 
-/// A fault or a signal of a channel, by its number; a signal's address is 0.
+/// A signal of a channel, or a fault.
 #[derive(Clone, Copy, PartialEq, Eq, Debug)]
-pub struct Notice {
-    pub channel: u8,
-    pub cause: u8,
-    pub address: u32,
+pub enum Notice {
+    Signal { channel: u8, signal: Signal },
+    Fault(Fault),
 }
 
 impl Blank for Notice {
     ghost blank_of = { blank_notice };
 
     fn blank() -> Notice {
-        Notice {
+        Notice::Signal {
             channel: 0,
-            cause: 0,
-            address: 0,
+            signal: Signal::Eop,
         }
     }
 }
 
-/// The number of a signal.
-fn signal_cause(signal: Signal) -> u8
-    ensures { result ≡ signal_cause signal }
-{
-    match signal {
-        Signal::Eop => 101,
-        Signal::Irq13 => 102,
+impl Notice {
+    /// The channel, the cause's number and the address; a signal's address is 0.
+    pub(crate) fn numbers(self) -> (u8, u8, u32)
+        ensures channel { result.0 ≡ (numbers_of self).channel }
+        ensures cause { result.1 ≡ (numbers_of self).cause }
+        ensures address { result.2 ≡ (numbers_of self).address }
+    {
+        match self {
+            Notice::Signal {
+                channel,
+                signal: Signal::Eop,
+            } => (channel, 101, 0),
+            Notice::Signal {
+                channel,
+                signal: Signal::Irq13,
+            } => (channel, 102, 0),
+            Notice::Fault(fault) => (fault.channel, fault.cause.number(), fault.address),
+        }
     }
 }
 
@@ -48,19 +57,9 @@ pub(crate) fn notice_of(outcome: Result<Event, Fault>) -> Option<Notice>
                 signal: Some(signal),
                 ..
             },
-        ) => {
-            Some(Notice {
-                channel,
-                cause: signal_cause(signal),
-                address: 0,
-            })
-        }
+        ) => Some(Notice::Signal { channel, signal }),
         Ok(_) => None,
-        Err(fault) => Some(Notice {
-            channel: fault.channel,
-            cause: fault.cause.number(),
-            address: fault.address,
-        }),
+        Err(fault) => Some(Notice::Fault(fault)),
     }
 }
 
@@ -68,8 +67,5 @@ pub(crate) fn notice_of(outcome: Result<Event, Fault>) -> Option<Notice>
 pub(crate) fn is_transfer(outcome: Result<Event, Fault>) -> bool
     ensures { result ≡ is_transfer outcome }
 {
-    match outcome {
-        Ok(Event::Moved { .. }) => true,
-        _ => false,
-    }
+    matches!(outcome, Ok(Event::Moved { .. }))
 }

@@ -2,10 +2,10 @@
 ghost use Rattle.std.specs.Prelude.{◌≡◌, ◌<◌, ◌++◌, length};
 ghost use Rattle.std.specs.Option.{option_to_list};
 ghost use Rattle.tape.specs.Tapes.{cells_of, contents, room};
-ghost use Rattle.controller.specs.Outside.{Does};
+ghost use Rattle.controller.specs.Outside.{outside_of, Does};
 ghost use Rattle.script.specs.Commands as order;
 ghost use Rattle.runner.specs.Notices.{notice_of};
-ghost use Rattle.runner.specs.Worlds.{world_of};
+ghost use Rattle.runner.specs.Answers.{told_of};
 ghost use Rattle.runner.specs.Plays.{run_at, step_once, played};
 
 use crate::answer::Answer;
@@ -32,7 +32,7 @@ impl Desk<'_> {
     /// One step, of which a fault or a signal becomes a notice; whether it was a transfer.
     fn step_once<M: Memory, B: PortBank>(&mut self, memory: &mut M, bank: &mut B) -> bool
         requires { 0 < room self.old.notices }
-        ensures does { Does (step_once (run_at self.old (world_of M.Memory B.PortBank memory.old bank.old))) (run_at self.new (world_of M.Memory B.PortBank memory.new bank.new)) result }
+        ensures does { Does (step_once (run_at self.old (outside_of M.Memory B.PortBank memory.old bank.old))) (run_at self.new (outside_of M.Memory B.PortBank memory.new bank.new)) result }
         ensures stays { M.fixed memory.new ≡ M.fixed memory.old }
     {
         let outcome = self.controller.step(memory, bank);
@@ -47,20 +47,19 @@ impl Desk<'_> {
         memory: &mut M,
         bank: &mut B,
     ) -> Answer
-        ensures does { Does (played (order.Step count) (run_at self.old (world_of M.Memory B.PortBank memory.old bank.old))) (run_at self.new (world_of M.Memory B.PortBank memory.new bank.new)) result }
+        ensures does { Does (played (order.Step count) (run_at self.old (outside_of M.Memory B.PortBank memory.old bank.old))) (run_at self.new (outside_of M.Memory B.PortBank memory.new bank.new)) (told_of result) }
         ensures stays { M.fixed memory.new ≡ M.fixed memory.old }
     {
-        let mut steps = 0;
         let mut transfers = 0;
-        while steps < count {
-            if self.is_full() {
-                break;
+        for steps in 0..count {
+            if self.notices.is_full() {
+                return Answer::Step { steps, transfers };
             }
-            if self.step_once(memory, bank) {
-                transfers += 1;
-            }
-            steps += 1;
+            transfers += u16::from(self.step_once(memory, bank));
         }
-        Answer::Step { steps, transfers }
+        Answer::Step {
+            steps: count,
+            transfers,
+        }
     }
 }

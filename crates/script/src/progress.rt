@@ -1,7 +1,7 @@
-// How far a script is read or written.
+// How far a reading, a writing or a run came.
 use crate::fault::ScriptFault;
 
-// How many are done, and the refusal that ended it before the end.
+// How many commands or bytes are done, and the refusal that ended it before the end.
 #[derive(Clone, Copy, PartialEq, Eq, Debug)]
 pub struct Progress {
     pub done: usize,
