@@ -27,7 +27,7 @@ impl Dma {
     }
 
     // The channel that the two low bits of a byte pick.
-    pub(crate) fn picked(self, value: u8) -> u8
+    pub fn picked(self, value: u8) -> u8
         ensures { result ≡ picked self value }
     {
         match self {

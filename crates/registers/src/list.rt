@@ -128,6 +128,15 @@ impl From<u8> for ListCommand {
     }
 }
 
+impl fmt::Display for Signal {
+    fn fmt<W: fmt::Write>(&self, f: &mut fmt::Formatter<W>) -> fmt::Result {
+        f.write_str(match self {
+            Signal::Eop => "EOP",
+            Signal::Irq13 => "IRQ13",
+        })
+    }
+}
+
 impl fmt::Display for ListCommand {
     fn fmt<W: fmt::Write>(&self, f: &mut fmt::Formatter<W>) -> fmt::Result {
         f.write_str(match self {

@@ -1,5 +1,5 @@
-// The names of ports' parts, as they are printed.
-use crate::ports::{Control, Dma, Field};
+// The names of ports and of what they reach, as they are printed.
+use crate::ports::{Control, Dma, Field, ReadPort, WritePort};
 use std::fmt;
 
 impl fmt::Display for Dma {
@@ -36,5 +36,27 @@ impl fmt::Display for Control {
             Control::ClearMasks => "clear masks",
             Control::AllMasks => "all masks",
         })
+    }
+}
+
+impl fmt::Display for WritePort {
+    fn fmt<W: fmt::Write>(&self, f: &mut fmt::Formatter<W>) -> fmt::Result {
+        match self {
+            WritePort::Field(field, channel) => write!(f, "channel {channel} {field}"),
+            WritePort::ListCommand(channel) => write!(f, "channel {channel} list command"),
+            WritePort::Control(control, dma) => write!(f, "{dma} {control}"),
+        }
+    }
+}
+
+impl fmt::Display for ReadPort {
+    fn fmt<W: fmt::Write>(&self, f: &mut fmt::Formatter<W>) -> fmt::Result {
+        match self {
+            ReadPort::Field(field, channel) => write!(f, "channel {channel} {field}"),
+            ReadPort::ListStatus(channel) => write!(f, "channel {channel} list status"),
+            ReadPort::Status(dma) => write!(f, "{dma} status"),
+            ReadPort::AllMasks(dma) => write!(f, "{dma} all masks"),
+            ReadPort::Irq13 => f.write_str("IRQ13 bits"),
+        }
     }
 }

@@ -1,13 +1,12 @@
 // A command with its answer, as a line.
-use crate::notices::NoticeWords;
 use runner::Answer;
 use script::command::Command;
 use std::fmt;
-use wording::{Levels, PortRead, PortValue, PortWrite, Reason, Refused};
+use wording::{Levels, PortRead, PortValue, PortWrite};
 
-/// What a command asks for.
+/// What a command asks for. The words are this program's, so another crate's type gets them through a type of its own.
 #[derive(Clone, Copy)]
-pub struct Order<'a>(pub Command<'a>);
+struct Order<'a>(Command<'a>);
 
 impl fmt::Display for Order<'_> {
     fn fmt<W: fmt::Write>(&self, f: &mut fmt::Formatter<W>) -> fmt::Result {
@@ -37,34 +36,13 @@ impl fmt::Display for Order<'_> {
     }
 }
 
-/// What a command answered.
-#[derive(Clone, Copy)]
-pub struct Reply(pub Answer);
-
-impl fmt::Display for Reply {
-    fn fmt<W: fmt::Write>(&self, f: &mut fmt::Formatter<W>) -> fmt::Result {
-        match self.0 {
-            Answer::Step { steps, transfers } => write!(
-                f,
-                ", {steps} done, transfers: {transfers}"
-            ),
-            Answer::Next { refusal: 0, notice } => {
-                let words = NoticeWords(notice);
-                write!(f, ": {words}")
-            }
-            Answer::Next { refusal, .. } => {
-                let reason = Reason(refusal);
-                write!(f, ": none, {refusal}: {reason}")
-            }
-            Answer::Out { refusal }
-            | Answer::In { refusal, .. }
-            | Answer::Lines { refusal }
-            | Answer::Put { refusal } => {
-                let refused = Refused(refusal);
-                write!(f, "{refused}")
-            }
-        }
-    }
+/// What a refusal adds to a line.
+fn say_refused<W: fmt::Write, R: fmt::Display>(
+    f: &mut fmt::Formatter<W>,
+    number: u8,
+    reason: R,
+) -> fmt::Result {
+    write!(f, ": refused, {number}: {reason}")
 }
 
 /// The line of a command that was played.
@@ -74,18 +52,36 @@ pub struct Line<'a> {
     pub answer: Answer,
 }
 
+impl Line<'_> {
+    /// What the command answered.
+    fn say_answer<W: fmt::Write>(&self, f: &mut fmt::Formatter<W>) -> fmt::Result {
+        match (self.answer, self.command) {
+            (Answer::In(Ok(value)), Command::In { port }) => {
+                let value = PortValue { port, value };
+                write!(f, ": {value}")
+            }
+            (Answer::Step { steps, transfers }, _) => write!(
+                f,
+                ", {steps} done, transfers: {transfers}"
+            ),
+            (Answer::Next(Ok(notice)), _) => write!(f, ": {notice}"),
+            (Answer::Next(Err(empty)), _) => {
+                let number = empty.number();
+                write!(f, ": none, {number}: {empty}")
+            }
+            (Answer::Out(Err(why)) | Answer::In(Err(why)) | Answer::Lines(Err(why)), _) => {
+                say_refused(f, why.number(), why)
+            }
+            (Answer::Put(Err(why)), _) => say_refused(f, why.number(), why),
+            _ => Ok(()),
+        }
+    }
+}
+
 impl fmt::Display for Line<'_> {
     fn fmt<W: fmt::Write>(&self, f: &mut fmt::Formatter<W>) -> fmt::Result {
         let order = Order(self.command);
-        let reply = Reply(self.answer);
-        write!(f, "{order}{reply}")?;
-        if let (Command::In { port }, Answer::In { refusal: 0, value }) = (
-            self.command,
-            self.answer,
-        ) {
-            let value = PortValue { port, value };
-            write!(f, ": {value}")?;
-        }
-        Ok(())
+        write!(f, "{order}")?;
+        self.say_answer(f)
     }
 }

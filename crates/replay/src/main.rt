@@ -3,12 +3,10 @@
 
 mod line;
 mod machine;
-mod notices;
 mod seen;
 
 use line::Line;
 use machine::Machine;
-use notices::NoticeWords;
 use runner::{Answer, NOTICES, Notice};
 use script::command::Command;
 use script::fault::ScriptFault;
@@ -17,7 +15,6 @@ use seen::Seen;
 use std::io;
 use std::io::Read;
 use tape::Blank;
-use wording::Reason;
 
 /// How much of standard input is used.
 const SCRIPT: u64 = 8_192;
@@ -37,8 +34,7 @@ fn print_end(rt: &HostRuntime, at: usize, fault: Option<ScriptFault>) -> io::Res
         return println!(rt; "{at:>5}  end of the script");
     };
     let number = fault.number();
-    let reason = Reason(number);
-    println!(rt; "{at:>5}  stopped at byte {at}, {number}: {reason}")
+    println!(rt; "{at:>5}  stopped at byte {at}, {number}: {fault}")
 }
 
 /// Plays a script and prints a line for each command, with the place of its first byte.
@@ -51,17 +47,15 @@ fn print_script(
     let mut reader = Script::new(script);
     let mut at = 0usize;
     loop {
-        match reader.next() {
-            Ok(Some(command)) => {
-                let answer = machine.play(command);
-                let line = Line { command, answer };
-                println!(rt; "{at:>5}  {line}")?;
-                seen::count(seen, answer);
-                at = at.saturating_add(size(command));
-            }
-            Ok(None) => return print_end(rt, at, None),
-            Err(fault) => return print_end(rt, at, Some(fault)),
-        }
+        let command = match reader.next() {
+            Ok(Some(command)) => command,
+            end => return print_end(rt, at, end.err()),
+        };
+        let answer = machine.play(command);
+        let line = Line { command, answer };
+        println!(rt; "{at:>5}  {line}")?;
+        seen::count(seen, answer);
+        at = at.saturating_add(size(command));
     }
 }
 
@@ -69,11 +63,10 @@ fn print_script(
 fn print_left(rt: &HostRuntime, machine: &mut Machine, seen: &mut [Seen]) -> io::Result<()> {
     for _ in 0..NOTICES {
         let answer = machine.play(Command::Next);
-        let Answer::Next { refusal: 0, notice } = answer else {
+        let Answer::Next(Ok(notice)) = answer else {
             break;
         };
-        let words = NoticeWords(notice);
-        println!(rt; "       never asked for: {words}")?;
+        println!(rt; "       never asked for: {notice}")?;
         seen::count(seen, answer);
     }
     Ok(())
@@ -82,7 +75,7 @@ fn print_left(rt: &HostRuntime, machine: &mut Machine, seen: &mut [Seen]) -> io:
 /// Prints a line for each channel of which there was a notice.
 fn print_summary(rt: &HostRuntime, seen: &[Seen]) -> io::Result<()> {
     for (channel, seen) in seen.iter().enumerate() {
-        if seen.any() {
+        if *seen != Seen::default() {
             println!(rt; "       channel {channel}: {seen}")?;
         }
     }
@@ -95,7 +88,7 @@ fn main(rt: HostRuntime) -> io::Result<()> {
     let mut bytes = [0; MEMORY];
     let mut cells = [Notice::blank(); NOTICES];
     let mut machine = Machine::new(&mut bytes, &mut cells);
-    let mut seen = [Seen::nothing(); 8];
+    let mut seen = [Seen::default(); 8];
     print_script(&rt, script.as_slice(), &mut machine, &mut seen)?;
     print_left(&rt, &mut machine, &mut seen)?;
     print_summary(&rt, &seen)

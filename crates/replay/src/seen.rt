@@ -1,9 +1,11 @@
 // How often each channel signalled and faulted.
-use runner::Answer;
+use controller::fault::Fault;
+use registers::list::Signal;
+use runner::{Answer, Notice};
 use std::fmt;
 
 /// What the notices said of one channel.
-#[derive(Clone, Copy)]
+#[derive(Clone, Copy, PartialEq, Eq, Default)]
 pub struct Seen {
     eop: u32,
     irq13: u32,
@@ -11,44 +13,33 @@ pub struct Seen {
 }
 
 impl Seen {
-    pub(crate) fn nothing() -> Seen {
-        Seen {
-            eop: 0,
-            irq13: 0,
-            faults: 0,
-        }
-    }
-
-    pub(crate) fn any(&self) -> bool {
-        self.eop > 0 || self.irq13 > 0 || self.faults > 0
-    }
-
-    /// With one notice more, of this cause.
-    fn with(self, cause: u8) -> Seen {
-        match cause {
-            101 => Seen {
-                eop: self.eop.saturating_add(1),
-                ..self
-            },
-            102 => Seen {
-                irq13: self.irq13.saturating_add(1),
-                ..self
-            },
-            _ => Seen {
-                faults: self.faults.saturating_add(1),
-                ..self
-            },
-        }
+    /// Counts one notice more.
+    fn count(&mut self, notice: Notice) {
+        let times = match notice {
+            Notice::Signal {
+                signal: Signal::Eop,
+                ..
+            } => &mut self.eop,
+            Notice::Signal {
+                signal: Signal::Irq13,
+                ..
+            } => &mut self.irq13,
+            Notice::Fault(_) => &mut self.faults,
+        };
+        *times = times.saturating_add(1);
     }
 }
 
 /// Counts an answer that is a notice.
 pub(crate) fn count(seen: &mut [Seen], answer: Answer) {
-    if let Answer::Next { refusal: 0, notice } = answer {
-        let channel = notice.channel as usize;
-        if channel < seen.len() {
-            seen[channel] = seen[channel].with(notice.cause);
-        }
+    let Answer::Next(Ok(notice)) = answer else {
+        return;
+    };
+    let channel = match notice {
+        Notice::Signal { channel, .. } | Notice::Fault(Fault { channel, .. }) => channel,
+    };
+    if let Some(seen) = seen.get_mut(usize::from(channel)) {
+        seen.count(notice);
     }
 }
 

@@ -5,6 +5,7 @@ ghost use Rattle.runner.specs.Notices.{blank_notice, numbers_of, notice_of, is_t
 use controller::event::Event;
 use controller::fault::Fault;
 use registers::list::Signal;
+use std::fmt;
 use tape::Blank;
 
 /// A signal of a channel, or a fault.
@@ -42,6 +43,25 @@ impl Notice {
                 signal: Signal::Irq13,
             } => (channel, 102, 0),
             Notice::Fault(fault) => (fault.channel, fault.cause.number(), fault.address),
+        }
+    }
+}
+
+impl fmt::Display for Notice {
+    fn fmt<W: fmt::Write>(&self, f: &mut fmt::Formatter<W>) -> fmt::Result {
+        match *self {
+            Notice::Signal { channel, signal } => write!(f, "channel {channel} signalled {signal}"),
+            Notice::Fault(Fault {
+                cause,
+                channel,
+                address,
+            }) => {
+                let number = cause.number();
+                write!(
+                    f,
+                    "channel {channel} faulted at {address:08X}h, {number}: {cause}"
+                )
+            }
         }
     }
 }

@@ -1,10 +1,19 @@
 // A call and its answer in words.
+//
+// The words are this program's, so the types of other crates get them through types of its own.
 use controller::event::Event;
 use controller::fault::Fault;
-use controller::grant::Cycle;
-use registers::list::Signal;
+use controller::grant::{BusRefusal, Cycle};
+use controller::inspect::Inspection;
+use registers::refusal::Refusal;
 use runs::calls::{Answer, Call};
 use std::fmt;
+
+/// What an inspection that is refused shows.
+const NOTHING: Inspection = Inspection {
+    address: 0,
+    count: 0,
+};
 
 /// A call with what it answered.
 #[derive(Clone, Copy)]
@@ -16,8 +25,8 @@ pub struct Said {
 impl fmt::Display for Said {
     fn fmt<W: fmt::Write>(&self, f: &mut fmt::Formatter<W>) -> fmt::Result {
         let name = CallWords(self.call);
-        let answer = AnswerWords(self.answer);
-        write!(f, "{name}: {answer}")
+        write!(f, "{name}: ")?;
+        say_answer(f, self.answer)
     }
 }
 
@@ -44,46 +53,41 @@ impl fmt::Display for CallWords {
     }
 }
 
-#[derive(Clone, Copy)]
-struct AnswerWords(Answer);
-
-impl fmt::Display for AnswerWords {
-    fn fmt<W: fmt::Write>(&self, f: &mut fmt::Formatter<W>) -> fmt::Result {
-        match self.0 {
-            Answer::Write { refusal } => write!(f, "{}", Refused(refusal)),
-            Answer::Read { refusal, value } => write!(f, "{}, {value:02X}h", Refused(refusal)),
-            Answer::Lines { refusal } => write!(f, "{}", Refused(refusal)),
-            Answer::Step { outcome } => write!(f, "{}", Outcome(outcome)),
-            Answer::Inspect {
-                refusal,
-                address,
-                count,
-            } => {
-                write!(
-                    f,
-                    "{}, address {address:04X}h, count {count:04X}h",
-                    Refused(refusal)
-                )
-            }
-            Answer::Take { refusal, channel } => write!(
-                f,
-                "{}, channel {channel}",
-                Refused(refusal)
-            ),
-            Answer::Cycle { refusal, byte } => write!(f, "{}, {byte:02X}h", Refused(refusal)),
-            Answer::Release { refusal } => write!(f, "{}", Refused(refusal)),
-        }
+/// What an access answered: that it was accepted, or the refusal's number.
+fn say_done<W: fmt::Write>(f: &mut fmt::Formatter<W>, refusal: Option<u8>) -> fmt::Result {
+    match refusal {
+        None => f.write_str("accepted"),
+        Some(number) => write!(f, "refused {number}"),
     }
 }
 
-#[derive(Clone, Copy)]
-struct Refused(u8);
-
-impl fmt::Display for Refused {
-    fn fmt<W: fmt::Write>(&self, f: &mut fmt::Formatter<W>) -> fmt::Result {
-        match self.0 {
-            0 => write!(f, "accepted"),
-            number => write!(f, "refused {number}"),
+fn say_answer<W: fmt::Write>(f: &mut fmt::Formatter<W>, answer: Answer) -> fmt::Result {
+    match answer {
+        Answer::Write(done) | Answer::Lines(done) => say_done(f, done.err().map(Refusal::number)),
+        Answer::Release(done) => say_done(f, done.err().map(BusRefusal::number)),
+        Answer::Step(outcome) => {
+            let outcome = Outcome(outcome);
+            write!(f, "{outcome}")
+        }
+        Answer::Read(read) => {
+            let value = read.unwrap_or(0);
+            say_done(f, read.err().map(Refusal::number))?;
+            write!(f, ", {value:02X}h")
+        }
+        Answer::Inspect(seen) => {
+            let Inspection { address, count } = seen.unwrap_or(NOTHING);
+            say_done(f, seen.err().map(Refusal::number))?;
+            write!(f, ", address {address:04X}h, count {count:04X}h")
+        }
+        Answer::Take(taken) => {
+            let channel = taken.unwrap_or(0);
+            say_done(f, taken.err().map(BusRefusal::number))?;
+            write!(f, ", channel {channel}")
+        }
+        Answer::Cycle(cycle) => {
+            let byte = cycle.unwrap_or(0);
+            say_done(f, cycle.err().map(BusRefusal::number))?;
+            write!(f, ", {byte:02X}h")
         }
     }
 }
@@ -109,11 +113,11 @@ impl fmt::Display for Outcome {
                     signal,
                 },
             ) => {
-                let end = SignalWords(signal);
-                write!(
-                    f,
-                    "channel {channel} moves {unit:04X}h at {address:06X}h{end}"
-                )
+                write!(f, "channel {channel} moves {unit:04X}h at {address:06X}h")?;
+                match signal {
+                    None => Ok(()),
+                    Some(signal) => write!(f, ", {signal}"),
+                }
             }
             Err(
                 Fault {
@@ -128,19 +132,6 @@ impl fmt::Display for Outcome {
                     "channel {channel} faults with {number} at {address:06X}h"
                 )
             }
-        }
-    }
-}
-
-#[derive(Clone, Copy)]
-struct SignalWords(Option<Signal>);
-
-impl fmt::Display for SignalWords {
-    fn fmt<W: fmt::Write>(&self, f: &mut fmt::Formatter<W>) -> fmt::Result {
-        match self.0 {
-            None => Ok(()),
-            Some(Signal::Eop) => write!(f, ", EOP"),
-            Some(Signal::Irq13) => write!(f, ", IRQ13"),
         }
     }
 }

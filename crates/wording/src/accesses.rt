@@ -1,7 +1,8 @@
 // What a driver writes and reads.
 use crate::channels::Channels;
-use crate::ports::{ReadName, WriteName};
-use crate::values::{Asked, Shown};
+use crate::ports::PortName;
+use crate::values::{say_asked, say_shown};
+use registers::ports::{read_port, write_port};
 use std::fmt;
 
 /// A byte that is written, as `write 05h to DMA1 mask (000Ah), channel 1 set`.
@@ -14,9 +15,10 @@ pub struct PortWrite {
 impl fmt::Display for PortWrite {
     fn fmt<W: fmt::Write>(&self, f: &mut fmt::Formatter<W>) -> fmt::Result {
         let PortWrite { port, value } = *self;
-        let name = WriteName(port);
-        let asked = Asked { port, value };
-        write!(f, "write {value:02X}h to {name}{asked}")
+        let reached = write_port(port);
+        let name = PortName { port, reached };
+        write!(f, "write {value:02X}h to {name}")?;
+        say_asked(f, reached, value)
     }
 }
 
@@ -28,12 +30,15 @@ pub struct PortRead {
 
 impl fmt::Display for PortRead {
     fn fmt<W: fmt::Write>(&self, f: &mut fmt::Formatter<W>) -> fmt::Result {
-        let name = ReadName(self.port);
+        let port = self.port;
+        let reached = read_port(port);
+        let name = PortName { port, reached };
         write!(f, "read {name}")
     }
 }
 
 /// A byte that a port showed, as `22h, terminal count: 1, requests: 1`.
+// It has the fields of a byte written; a type of its own, since it is said in other words.
 #[derive(Clone, Copy)]
 pub struct PortValue {
     pub port: u16,
@@ -43,8 +48,8 @@ pub struct PortValue {
 impl fmt::Display for PortValue {
     fn fmt<W: fmt::Write>(&self, f: &mut fmt::Formatter<W>) -> fmt::Result {
         let PortValue { port, value } = *self;
-        let shown = Shown { port, value };
-        write!(f, "{value:02X}h{shown}")
+        write!(f, "{value:02X}h")?;
+        say_shown(f, read_port(port), value)
     }
 }
 

@@ -10,19 +10,17 @@ pub struct Channels {
 
 impl fmt::Display for Channels {
     fn fmt<W: fmt::Write>(&self, f: &mut fmt::Formatter<W>) -> fmt::Result {
-        if self.bits == 0 {
+        let Channels { bits, first } = *self;
+        if bits == 0 {
             return f.write_str("none");
         }
-        let mut others = false;
-        for bit in 0..8u8 {
-            if self.bits >> bit & 1 == 1 {
-                if others {
-                    f.write_str(" ")?;
-                }
-                let channel = self.first.saturating_add(bit);
-                write!(f, "{channel}")?;
-                others = true;
+        let set = (0..8u8).filter(|bit| bits.rotate_right(u32::from(*bit)) & 1 == 1);
+        for (place, bit) in set.enumerate() {
+            if place > 0 {
+                f.write_str(" ")?;
             }
+            let channel = first.saturating_add(bit);
+            write!(f, "{channel}")?;
         }
         Ok(())
     }

@@ -1,50 +1,28 @@
 // What the values of registers mean.
 use crate::channels::Channels;
-use registers::ports::{Control, Dma, ReadPort, WritePort, read_port, write_port};
+use registers::list::ListCommand;
+use registers::mode::{Mode, Service};
+use registers::ports::{Control, Dma, ReadPort, WritePort};
 use std::fmt;
 
-/// What a value written to a port asks for; nothing where the value speaks for itself.
-#[derive(Clone, Copy)]
-pub struct Asked {
-    pub port: u16,
-    pub value: u8,
+/// The channels whose bits are set, from the first of a group on.
+fn channels(bits: u8, dma: Dma) -> Channels {
+    let first = dma.picked(0);
+    Channels { bits, first }
 }
 
-/// What a value read from a port says; nothing where the value speaks for itself.
-#[derive(Clone, Copy)]
-pub struct Shown {
-    pub port: u16,
-    pub value: u8,
-}
-
-/// The first channel of a group.
-fn first(dma: Dma) -> u8 {
-    match dma {
-        Dma::One => 0,
-        Dma::Two => 4,
-    }
-}
-
-fn service(value: u8) -> &'static str {
-    match value / 64 {
-        0 => "demand",
-        1 => "single",
-        2 => "block",
-        _ => "cascade",
-    }
-}
-
-/// Which way units go; a cascade channel has none.
-fn transfer(value: u8) -> &'static str {
-    match (value / 64, value / 4 % 4) {
-        (3, _) => "",
-        (_, 0) => ", verify",
-        (_, 1) => ", device to memory",
-        (_, 2) => ", memory to device",
+/// Which way units go; a cascade channel has none. Type 3 is refused, so it is in no enum, and the number says it.
+fn transfer(value: u8, service: Service) -> &'static str {
+    match value / 4 % 4 {
+        _ if service == Service::Cascade => "",
+        0 => ", verify",
+        1 => ", device to memory",
+        2 => ", memory to device",
         _ => ", transfer type 3",
     }
 }
 
+/// Half of the numbers are refused, so no enum has them.
 fn addressing(value: u8) -> &'static str {
     match value / 4 % 4 {
         0 => "bytes",
@@ -53,20 +31,12 @@ fn addressing(value: u8) -> &'static str {
     }
 }
 
-fn list_command(value: u8) -> &'static str {
-    match value % 4 {
-        0 => "nothing",
-        1 => "Start",
-        2 => "Stop",
-        _ => "no such command",
-    }
-}
-
+/// Bit 6 says that the end is selected, bit 7 how.
 fn selection(value: u8) -> &'static str {
-    match value / 64 {
-        1 => ", the end by IRQ13",
-        3 => ", the end by EOP",
-        _ => "",
+    match (value & 0x40 != 0, value & 0x80 != 0) {
+        (true, false) => ", the end by IRQ13",
+        (true, true) => ", the end by EOP",
+        (false, _) => "",
     }
 }
 
@@ -93,10 +63,15 @@ fn asked_of_channel<W: fmt::Write>(
             write!(f, ", channel {channel} {to}")
         }
         Control::Mode => {
-            let service = service(value);
-            let transfer = transfer(value);
-            let down = if_set(value, 0x20, ", down");
-            let again = if_set(value, 0x10, ", autoinitialise");
+            let Mode {
+                service,
+                decrement,
+                autoinitialise,
+                ..
+            } = Mode::from(value);
+            let transfer = transfer(value, service);
+            let down = if decrement { ", down" } else { "" };
+            let again = if autoinitialise { ", autoinitialise" } else { "" };
             write!(f, ", channel {channel} {service}{transfer}{down}{again}")
         }
         Control::ExtendedMode => {
@@ -122,28 +97,27 @@ fn asked_of_group<W: fmt::Write>(
             write!(f, ", {enable}, {priority} priority, lines active {lines}")
         }
         Control::AllMasks => {
-            let set = Channels {
-                bits: value & 0x0F,
-                first: first(dma),
-            };
+            let set = channels(value & 0x0F, dma);
             write!(f, ", set: {set}")
         }
-        _ => asked_of_channel(f, control, first(dma).saturating_add(value % 4), value),
+        _ => asked_of_channel(f, control, dma.picked(value), value),
     }
 }
 
-impl fmt::Display for Asked {
-    fn fmt<W: fmt::Write>(&self, f: &mut fmt::Formatter<W>) -> fmt::Result {
-        let value = self.value;
-        match write_port(self.port) {
-            Some(WritePort::Control(control, dma)) => asked_of_group(f, control, dma, value),
-            Some(WritePort::ListCommand(_)) => {
-                let command = list_command(value);
-                let selection = selection(value);
-                write!(f, ", {command}{selection}")
-            }
-            _ => Ok(()),
+/// What a value written to a port asks for; nothing where the value speaks for itself.
+pub(crate) fn say_asked<W: fmt::Write>(
+    f: &mut fmt::Formatter<W>,
+    reached: Option<WritePort>,
+    value: u8,
+) -> fmt::Result {
+    match reached {
+        Some(WritePort::Control(control, dma)) => asked_of_group(f, control, dma, value),
+        Some(WritePort::ListCommand(_)) => {
+            let command = ListCommand::from(value);
+            let selection = selection(value);
+            write!(f, ", {command}{selection}")
         }
+        _ => Ok(()),
     }
 }
 
@@ -157,37 +131,27 @@ fn shown_of_list<W: fmt::Write>(f: &mut fmt::Formatter<W>, value: u8) -> fmt::Re
     write!(f, ", {active}{current}{reserve}{irq13}{ended}")
 }
 
-impl fmt::Display for Shown {
-    fn fmt<W: fmt::Write>(&self, f: &mut fmt::Formatter<W>) -> fmt::Result {
-        let value = self.value;
-        match read_port(self.port) {
-            Some(ReadPort::Status(dma)) => {
-                let done = Channels {
-                    bits: value & 0x0F,
-                    first: first(dma),
-                };
-                let active = Channels {
-                    bits: value >> 4,
-                    first: first(dma),
-                };
-                write!(f, ", terminal count: {done}, requests: {active}")
-            }
-            Some(ReadPort::AllMasks(dma)) => {
-                let set = Channels {
-                    bits: value,
-                    first: first(dma),
-                };
-                write!(f, ", set: {set}")
-            }
-            Some(ReadPort::Irq13) => {
-                let set = Channels {
-                    bits: value,
-                    first: 0,
-                };
-                write!(f, ", set: {set}")
-            }
-            Some(ReadPort::ListStatus(_)) => shown_of_list(f, value),
-            _ => Ok(()),
+/// What a value read from a port says; nothing where the value speaks for itself.
+pub(crate) fn say_shown<W: fmt::Write>(
+    f: &mut fmt::Formatter<W>,
+    reached: Option<ReadPort>,
+    value: u8,
+) -> fmt::Result {
+    match reached {
+        Some(ReadPort::Status(dma)) => {
+            let done = channels(value & 0x0F, dma);
+            let active = channels(value >> 4, dma);
+            write!(f, ", terminal count: {done}, requests: {active}")
         }
+        Some(ReadPort::AllMasks(dma)) => {
+            let set = channels(value, dma);
+            write!(f, ", set: {set}")
+        }
+        Some(ReadPort::Irq13) => {
+            let set = channels(value, Dma::One);
+            write!(f, ", set: {set}")
+        }
+        Some(ReadPort::ListStatus(_)) => shown_of_list(f, value),
+        _ => Ok(()),
     }
 }
