@@ -56,22 +56,18 @@ impl Place {
         ensures value { result ≡ place_at addressing address old_low }
         ensures back { address % unit_of addressing ≡ 0 → address_of addressing result ≡ address }
     {
-        let pages = address >> 16;
-        let high = (pages >> 8) as u8;
+        let [high, low, ..] = address.to_be_bytes();
         match addressing {
             Addressing::Bytes => Place {
                 address: (address & 0xffff) as u16,
-                low: (pages & 0xff) as u8,
+                low,
                 high,
             },
-            Addressing::Words => {
-                let low = (pages & 0xfe) as u8 | old_low & 1;
-                Place {
-                    address: (address >> 1 & 0xffff) as u16,
-                    low,
-                    high,
-                }
-            }
+            Addressing::Words => Place {
+                address: (address >> 1 & 0xffff) as u16,
+                low: low & 0xfe | old_low & 1,
+                high,
+            },
         }
     }
 
@@ -79,7 +75,11 @@ impl Place {
     fn along(self, course: Course, k: u32) -> Place
         ensures { result ≡ place_along course self k }
     {
-        let way = if course.decrement { k.wrapping_neg() } else { k };
+        let way = if course.decrement {
+            k.wrapping_neg()
+        } else {
+            k
+        };
         if course.extended {
             let here = self.bus_address(course.addressing);
             let next = here.wrapping_add(course.addressing.unit().wrapping_mul(way));
