@@ -10,6 +10,10 @@ use Rattle.ports.specs.Faults.{port_refusal}
 abbrev pub is_channel : ℕ → Bool
 is_channel c = nat_lt c 8 && not (c == 4)
 
+-- a channel is accepted, anything else gets 33
+abbrev pub channel_of : ℕ → Result (Unit {0}) PortFault
+channel_of c = cond (is_channel c) (Ok tt) (Err (port_refusal 33))
+
 -- looking and taking answer the first unit of the channel, 31 if none waits, 33 before that if there is no such channel
 abbrev pub look_of : ℕ → (ℕ → List ℕ) → Result ℕ PortFault
 look_of c waiting = cond (is_channel c) (first_or (port_refusal 31) (waiting c)) (Err (port_refusal 33))

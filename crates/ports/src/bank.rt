@@ -1,6 +1,6 @@
 // What a port bank is.
 ghost use Rattle.std.specs.Prelude.{◌≡◌, ℕ, List};
-ghost use Rattle.ports.specs.Units.{is_channel, look_of, taken, give_of, added, used};
+ghost use Rattle.ports.specs.Units.{is_channel, channel_of, look_of, taken, give_of, added, used};
 
 use crate::faults::PortFault;
 
@@ -39,4 +39,23 @@ pub fn is_channel(channel: u8) -> bool
     ensures { result ≡ is_channel channel }
 {
     channel < 8 && channel != 4
+}
+
+/// Refused if a bank has no such channel.
+pub fn check_channel(channel: u8) -> Result<(), PortFault>
+    ensures { result ≡ channel_of channel }
+{
+    if is_channel(channel) {
+        Ok(())
+    } else {
+        Err(PortFault::NoSuchChannel)
+    }
+}
+
+/// What giving answers in a bank without free places: always a refusal.
+pub fn no_place(channel: u8) -> Result<(), PortFault>
+    ensures { result ≡ give_of channel (λ _. 0) }
+{
+    check_channel(channel)?;
+    Err(PortFault::NoPlace)
 }

@@ -41,7 +41,7 @@ impl<'a> Deck<'a> {
     pub(crate) fn look(&self) -> Result<u16, PortFault>
         ensures { result ≡ first_or (port_refusal 31) (deck_waiting self.now) }
     {
-        self.waiting.peek().ok().ok_or(PortFault::NothingWaits)
+        Ok(self.waiting.peek()?)
     }
 
     /// The first unit that waits, which is removed.
@@ -50,7 +50,7 @@ impl<'a> Deck<'a> {
         ensures waits { deck_waiting self.new ≡ rest_of (deck_waiting self.old) }
         ensures keeps { self.new.kept ≡ self.old.kept }
     {
-        self.waiting.pop().ok().ok_or(PortFault::NothingWaits)
+        Ok(self.waiting.pop()?)
     }
 
     /// Keeps a unit.
@@ -60,6 +60,6 @@ impl<'a> Deck<'a> {
         ensures keeps { deck_kept self.new ≡ pushed (deck_free self.old) (deck_kept self.old) unit }
         ensures frees { deck_free self.new ≡ deck_free self.old - 1 }
     {
-        self.kept.push(unit).ok().ok_or(PortFault::NoPlace)
+        Ok(self.kept.push(unit)?)
     }
 }

@@ -1,13 +1,17 @@
 // How a port bank refuses.
 ghost use Rattle.std.specs.Prelude.{◌≡◌};
-ghost use Rattle.ports.specs.Faults.{port_number};
+ghost use Rattle.ports.specs.Faults.{port_number, port_fault_of};
 
-/// Why a port bank refuses.
+use std::error::Error;
+use std::fmt;
+use tape::TapeFault;
+
+/// Why a port bank refuses. Each refusal has its number.
 #[derive(Clone, Copy, PartialEq, Eq, Debug)]
 pub enum PortFault {
-    NothingWaits,
-    NoPlace,
-    NoSuchChannel,
+    NothingWaits = 31,
+    NoPlace = 32,
+    NoSuchChannel = 33,
 }
 
 impl PortFault {
@@ -15,10 +19,30 @@ impl PortFault {
     pub fn number(self) -> u8
         ensures { result ≡ port_number self }
     {
-        match self {
-            PortFault::NothingWaits => 31,
-            PortFault::NoPlace => 32,
-            PortFault::NoSuchChannel => 33,
+        self as u8
+    }
+}
+
+impl fmt::Display for PortFault {
+    fn fmt<W: fmt::Write>(&self, f: &mut fmt::Formatter<W>) -> fmt::Result {
+        f.write_str(match self {
+            PortFault::NothingWaits => "nothing waits at the device",
+            PortFault::NoPlace => "the device has no free place",
+            PortFault::NoSuchChannel => "the bank has no such channel",
+        })
+    }
+}
+
+impl Error for PortFault {}
+
+impl From<TapeFault> for PortFault {
+    ghost from_gives = { λ fault r. r ≡ port_fault_of fault };
+
+    /// Nothing waits on an empty tape, and a full one has no free place.
+    fn from(fault: TapeFault) -> PortFault {
+        match fault {
+            TapeFault::Full => PortFault::NoPlace,
+            TapeFault::Empty => PortFault::NothingWaits,
         }
     }
 }

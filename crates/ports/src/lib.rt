@@ -7,7 +7,7 @@ pub mod faults;
 pub mod ramps;
 pub mod tapes;
 
-pub use bank::{PortBank, is_channel};
+pub use bank::{PortBank, check_channel, is_channel, no_place};
 pub use decks::Deck;
 pub use faults::PortFault;
 pub use ramps::RampBank;
