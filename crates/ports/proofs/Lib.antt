@@ -1,2 +1,3 @@
 -- Lemmas on port banks.
+pub mod Mapped
 pub mod Ramped

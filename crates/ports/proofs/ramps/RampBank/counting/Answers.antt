@@ -1,7 +1,9 @@
 -- Each channel's ramp starts at its number.
-use Rattle.std.proofs.Common.{◌∙◌}
-use Rattle.ports.proofs.Ramped.{counts}
+use Rattle.std.proofs.Common.{ap, ◌∙◌, rules}
+use Rattle.ports.specs.Ramps.{ramps_from}
+use Rattle.ports.proofs.Mapped.{mapped}
+use Rattle.ports.proofs.Ramped.{ramp_with, counts}
 use Rattle.ports.proofs.ramps.RampBank.counting.Goals as goal
 
 pub returns : goal.returns
-returns c = c.new.ensures ∙ counts c.args.count
+returns c = c.new.ensures ∙ ap ramps_from (mapped _ (λ v. ramp_with v c.args.count) _ (λ x y q call. search rules) _ _ 0 c.map.ensures.items) ∙ counts c.args.count
