@@ -5,7 +5,7 @@
 ghost use Rattle.std.specs.Prelude.{◌≡◌, []};
 ghost use Rattle.picture.specs.Equals.{equal_units, equal_waiting};
 
-use ports::{PortBank, PortFault, is_channel};
+use ports::{PortBank, PortFault, check_channel, no_place};
 
 /// A number of equal units waits on one channel; there is no free place.
 #[derive(Drop)]
@@ -27,6 +27,7 @@ impl EqualBank {
     }
 }
 
+#[tactic(auto, using(crate::proofs::Repeated::replicate_some))]
 impl PortBank for EqualBank {
     ghost waiting = { equal_waiting };
 
@@ -36,13 +37,8 @@ impl PortBank for EqualBank {
 
     // 33 comes before 31.
     fn look(&self, channel: u8) -> Result<u16, PortFault> {
-        if !is_channel(channel) {
-            return Err(PortFault::NoSuchChannel);
-        }
-        if channel != self.channel {
-            return Err(PortFault::NothingWaits);
-        }
-        if self.left == 0 {
+        check_channel(channel)?;
+        if channel != self.channel || self.left == 0 {
             return Err(PortFault::NothingWaits);
         }
         Ok(self.unit)
@@ -55,10 +51,6 @@ impl PortBank for EqualBank {
     }
 
     fn give(&mut self, channel: u8, _unit: u16) -> Result<(), PortFault> {
-        if is_channel(channel) {
-            Err(PortFault::NoPlace)
-        } else {
-            Err(PortFault::NoSuchChannel)
-        }
+        no_place(channel)
     }
 }

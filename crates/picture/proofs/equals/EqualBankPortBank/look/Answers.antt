@@ -1,6 +1,0 @@
-use Rattle.std.proofs.Common.{rules}
-use Rattle.picture.proofs.Repeated.{replicate_some}
-use Rattle.picture.proofs.equals.EqualBankPortBank.look.Goals as goal
-
-pub returns : goal.returns
-returns c = search (rules, replicate_some)
