@@ -39,10 +39,7 @@ impl<N: Memory> Memory for ReadOnlyPicture<N> {
     ghost fixed = { λ s. N.Memory.fixed s.inner };
 
     fn kind(&self, address: u32) -> Kind {
-        match self.inner.kind(address) {
-            Kind::Absent => Kind::Absent,
-            Kind::ReadOnly | Kind::Writable => Kind::ReadOnly,
-        }
+        self.inner.kind(address).min(Kind::ReadOnly)
     }
 
     fn read(&self, address: u32) -> Result<u8, MemoryFault> {
