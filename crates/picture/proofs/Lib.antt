@@ -1,3 +1,3 @@
 -- Lemmas of the example.
-pub mod Patching
 pub mod Repeated
+pub mod Patching

@@ -2,4 +2,5 @@
 pub mod Pictures
 pub mod Equals
 pub mod Marks
+pub mod Faults
 pub mod Maps

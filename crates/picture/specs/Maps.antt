@@ -1,7 +1,6 @@
 -- The maps of the example.
 use Rattle.std.specs.Prelude.{ℕ, true, false, cond, List, length, Ok, Err, Result}
 use Rattle.memory.specs.declared.kinds.Kind.{Kind}
-use Rattle.memory.specs.declared.kinds.MemoryFault.{MemoryFault}
 use Rattle.memory.specs.declared.blocks.Block.{Block}
 use Rattle.memory.specs.declared.joins.Join.{Join}
 use Rattle.memory.specs.declared.holes.Hole.{Hole}
@@ -11,9 +10,9 @@ use Rattle.memory.specs.Layers.{joined, holed}
 use Rattle.memory.specs.Puts.{put_of, put_bytes}
 
 -- 0 if accepted, else the refusal's number
-abbrev pub number_of : Result (Unit {0}) MemoryFault → ℕ
-number_of (Ok u) = 0
-number_of (Err e) = memory_number e
+abbrev pub number_of : {E : Type 0} → (E → ℕ) → Result (Unit {0}) E → ℕ
+number_of number (Ok u) = 0
+number_of number (Err e) = number e
 
 -- n writable bytes from 0 on
 abbrev pub plain_kind : ℕ → ℕ → Kind
@@ -21,7 +20,7 @@ plain_kind n = kind_from (kind_of_all true true) 0 n
 
 -- patching gets 71 if the bytes do not fit a block, else what a write of eight bytes gets
 abbrev pub patch_of : ℕ → ℕ → ℕ
-patch_of n a = cond (fits_at 0 n) (number_of (put_of (plain_kind n) a)) 71
+patch_of n a = cond (fits_at 0 n) (number_of memory_number (put_of (plain_kind n) a)) 71
 
 -- the bytes after patching
 abbrev pub patched : List ℕ → ℕ → List ℕ → List ℕ

@@ -1,32 +1,24 @@
 // Maps over lent bytes: one block whose lender knows its bytes afterwards, and a board of blocks, a join and a hole.
 ghost use Rattle.std.specs.Prelude.{◌≡◌, length};
 ghost use Rattle.picture.specs.Maps.{number_of, patch_of, patched, board_kinds, board_bytes, board_kind, board_byte};
+ghost use Rattle.picture.specs.Faults.{patch_number};
 
-use memory::{Block, Hole, Join, MemoryFault, put};
+use crate::faults::PatchFault;
+use memory::{Block, Hole, Join, put};
 
-/// Writes eight bytes into lent bytes that stand from 0 on, and answers 0 or the refusal's number.
+/// Writes eight bytes into lent bytes that stand from 0 on; refused, it changes nothing.
 //
 // `Block::over` says that the block has the lender's bytes, and `fixed` that it still has them after the call: so it is known
 // what the lender finds. `Block::new` answers a `Result`, behind which that is lost.
-pub fn patch(bytes: &mut [u8], address: u32, eight: [u8; 8]) -> u8
-    ensures answer { result ≡ patch_of (length bytes.old) address }
+#[tactic(auto, using(crate::proofs::Patching::patch_bytes))]
+pub fn patch(bytes: &mut [u8], address: u32, eight: [u8; 8]) -> Result<(), PatchFault>
+    ensures answer { number_of patch_number result ≡ patch_of (length bytes.old) address }
     ensures after { bytes.new ≡ patched bytes.old address eight }
 {
-    if let Err(fault) = Block::fits(bytes.len(), 0) {
-        return fault.number();
-    }
+    Block::fits(bytes.len(), 0)?;
     let mut block = Block::over(bytes, 0, true);
-    number_of(put(&mut block, address, eight))
-}
-
-/// 0, or the refusal's number.
-fn number_of(answer: Result<(), MemoryFault>) -> u8
-    ensures { result ≡ number_of answer }
-{
-    match answer {
-        Ok(()) => 0,
-        Err(fault) => fault.number(),
-    }
+    put(&mut block, address, eight)?;
+    Ok(())
 }
 
 /// A board: writable bytes from 0 on, read-only bytes at the top, and a hole in the first.

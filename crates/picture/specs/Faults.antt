@@ -1,0 +1,11 @@
+-- The numbers of a patch's refusals.
+use Rattle.std.specs.Prelude.{ℕ}
+use Rattle.memory.specs.Blocks.{block_number}
+use Rattle.memory.specs.Faults.{memory_number}
+use Rattle.picture.specs.declared.faults.PatchFault.{PatchFault}
+use Rattle.picture.specs.declared.faults.PatchFault.TheVariants.{Block, Memory}
+
+-- the number of the layer that refuses: 71 of the block, 21 or 22 of the memory
+abbrev pub patch_number : PatchFault → ℕ
+patch_number (Block e) = block_number e
+patch_number (Memory e) = memory_number e
