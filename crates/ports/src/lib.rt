@@ -10,5 +10,5 @@ pub mod tapes;
 pub use bank::{PortBank, check_channel, is_channel, no_place};
 pub use decks::Deck;
 pub use faults::PortFault;
-pub use ramps::RampBank;
+pub use ramps::{Ramp, RampBank};
 pub use tapes::TapeBank;

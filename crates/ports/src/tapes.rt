@@ -7,6 +7,8 @@ use crate::decks::Deck;
 use crate::faults::PortFault;
 
 /// A deck for each channel.
+//
+// Seven fields, since an array of structs that hold a `&mut` gets no proof yet.
 #[derive(Drop)]
 pub struct TapeBank<'a> {
     deck0: Deck<'a>,
@@ -71,6 +73,22 @@ impl<'a> TapeBank<'a> {
     }
 }
 
+// Asks a channel's deck. A function that answers a `&mut` to one of several fields gets no proof yet, so this is a macro.
+macro_rules! ask_deck {
+    ($bank:ident, $channel:ident, $ask:ident($($unit:ident)?)) => {
+        match $channel {
+            0 => $bank.deck0.$ask($($unit)?),
+            1 => $bank.deck1.$ask($($unit)?),
+            2 => $bank.deck2.$ask($($unit)?),
+            3 => $bank.deck3.$ask($($unit)?),
+            5 => $bank.deck5.$ask($($unit)?),
+            6 => $bank.deck6.$ask($($unit)?),
+            7 => $bank.deck7.$ask($($unit)?),
+            _ => Err(PortFault::NoSuchChannel),
+        }
+    };
+}
+
 impl PortBank for TapeBank<'_> {
     ghost waiting = { tape_waiting };
 
@@ -79,41 +97,14 @@ impl PortBank for TapeBank<'_> {
     ghost free = { tape_free };
 
     fn look(&self, channel: u8) -> Result<u16, PortFault> {
-        match channel {
-            0 => self.deck0.look(),
-            1 => self.deck1.look(),
-            2 => self.deck2.look(),
-            3 => self.deck3.look(),
-            5 => self.deck5.look(),
-            6 => self.deck6.look(),
-            7 => self.deck7.look(),
-            _ => Err(PortFault::NoSuchChannel),
-        }
+        ask_deck!(self, channel, look())
     }
 
     fn take(&mut self, channel: u8) -> Result<u16, PortFault> {
-        match channel {
-            0 => self.deck0.take(),
-            1 => self.deck1.take(),
-            2 => self.deck2.take(),
-            3 => self.deck3.take(),
-            5 => self.deck5.take(),
-            6 => self.deck6.take(),
-            7 => self.deck7.take(),
-            _ => Err(PortFault::NoSuchChannel),
-        }
+        ask_deck!(self, channel, take())
     }
 
     fn give(&mut self, channel: u8, unit: u16) -> Result<(), PortFault> {
-        match channel {
-            0 => self.deck0.give(unit),
-            1 => self.deck1.give(unit),
-            2 => self.deck2.give(unit),
-            3 => self.deck3.give(unit),
-            5 => self.deck5.give(unit),
-            6 => self.deck6.give(unit),
-            7 => self.deck7.give(unit),
-            _ => Err(PortFault::NoSuchChannel),
-        }
+        ask_deck!(self, channel, give(unit))
     }
 }
