@@ -6,6 +6,8 @@ ghost use Rattle.picture.specs.Faults.{patch_number};
 ghost use Rattle.picture.specs.declared.faults.PatchFault.TheVariants.{Block, Memory};
 
 use memory::{BlockFault, MemoryFault};
+use std::error::Error;
+use std::fmt;
 
 /// Why a patch is refused: the bytes make no block, or the memory refuses the write.
 #[derive(Clone, Copy, PartialEq, Eq, Debug)]
@@ -25,6 +27,17 @@ impl PatchFault {
         }
     }
 }
+
+impl fmt::Display for PatchFault {
+    fn fmt<W: fmt::Write>(&self, f: &mut fmt::Formatter<W>) -> fmt::Result {
+        match self {
+            PatchFault::Block(block) => block.fmt(f),
+            PatchFault::Memory(memory) => memory.fmt(f),
+        }
+    }
+}
+
+impl Error for PatchFault {}
 
 impl From<BlockFault> for PatchFault {
     ghost from_gives = { λ fault r. r ≡ Block fault };

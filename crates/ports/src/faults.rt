@@ -1,6 +1,6 @@
 // How a port bank refuses.
-ghost use Rattle.std.specs.Prelude.{◌≡◌};
-ghost use Rattle.ports.specs.Faults.{port_number, port_fault_of};
+ghost use Rattle.std.specs.Prelude.{◌≡◌, Some};
+ghost use Rattle.ports.specs.Faults.{port_number, port_words, port_fault_of};
 
 use std::error::Error;
 use std::fmt;
@@ -24,6 +24,8 @@ impl PortFault {
 }
 
 impl fmt::Display for PortFault {
+    ghost output = { λ fault. Some (port_words fault) };
+
     fn fmt<W: fmt::Write>(&self, f: &mut fmt::Formatter<W>) -> fmt::Result {
         f.write_str(match self {
             PortFault::NothingWaits => "nothing waits at the device",
