@@ -1,6 +1,7 @@
 -- How a script is read, one command or all of it.
-use Rattle.std.specs.Prelude.{ℕ, zero, suc, ◌+◌, ◌*◌, ◌<◌, cond, List, [], ◌∷◌, length, take, drop, Some, None, Ok, Err, Option, Result, ◌==◌, nat_lt, slice_index}
+use Rattle.std.specs.Prelude.{◌≡◌, ℕ, zero, suc, ◌+◌, ◌*◌, ◌<◌, cond, List, [], ◌∷◌, length, take, drop, Some, None, Ok, Err, Option, Result, ◌==◌, nat_lt, slice_index}
 use Rattle.script.specs.declared.command.Command.{Command}
+use Rattle.script.specs.declared.commands.Commands.{Commands}
 use Rattle.script.specs.declared.fault.ScriptFault.{ScriptFault}
 use Rattle.script.specs.declared.fault.ScriptFault.TheVariants.{Unknown, CutShort, NoPlace}
 use Rattle.script.specs.declared.reader.Script.{Script}
@@ -78,3 +79,13 @@ abbrev pub Shorter : Result (Option Command) ScriptFault → List ℕ → List �
 Shorter (Ok (Some command)) before after = length after < length before
 Shorter (Ok None) before after = Unit {0}
 Shorter (Err fault) before after = Unit {0}
+
+-- What an iterator of commands has yet to read.
+abbrev pub coming : Commands → List ℕ
+coming commands = left commands.script
+
+-- What comes next of a script, and what is left then: a command and the bytes after it, or, at the end and at a refusal, nothing more.
+abbrev pub Comes : Option (Result Command ScriptFault) → List ℕ → List ℕ → Type 0
+Comes (Some (Ok command)) before after = (Ok (Some (order_of command)) ≡ read_of before) × (after ≡ rest_of before) × (length after < length before)
+Comes None before after = (Ok None ≡ read_of before) × (after ≡ [])
+Comes (Some (Err fault)) before after = (Err (number_of fault) ≡ read_of before) × (after ≡ [])

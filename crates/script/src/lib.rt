@@ -2,6 +2,7 @@
 #![tactic(auto)]
 
 pub mod command;
+pub mod commands;
 pub mod fault;
 pub mod progress;
 pub mod reader;

@@ -1,7 +1,7 @@
-// How far a reading, a writing or a run came.
+// How far a script is read or written.
 use crate::fault::ScriptFault;
 
-// How many commands or bytes are done, and the refusal that ended it before the end.
+// How many commands were read, or bytes written, and the refusal that ended it before the end.
 #[derive(Clone, Copy, PartialEq, Eq, Debug)]
 pub struct Progress {
     pub done: usize,

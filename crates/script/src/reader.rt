@@ -23,7 +23,7 @@ impl<'a> Script<'a> {
     }
 
     // The next command, and `None` at the end. A refusal leaves the place where it was.
-    // No `Iterator` beside it: the refusal would come again without end, so no `for` over it is proved.
+    // An iterator that did so would not end, so `Commands` is a type of its own.
     pub fn next(&mut self) -> Result<Option<Command<'a>>, ScriptFault>
         ensures answer { said_by result ≡ read_of (left self.old) }
         ensures rest { left self.new ≡ rest_of (left self.old) }
