@@ -1,18 +1,19 @@
 -- What one turn of a run does to the plan of channel c while its job goes on.
-use Rattle.std.proofs.Common.{◌≡◌, ℕ, ◌<◌, Bool, true, false, cond, ◌⊎◌, is_some, Some, None, Ok, Option, sym, refl, ap, ◌∙◌, subst, inl}
+use Rattle.std.proofs.Common.{◌≡◌, ℕ, ◌<◌, Bool, true, false, ◌⊎◌, is_some, Some, None, Ok, Option, sym, refl, ap, ◌∙◌, subst, inl}
+use Rattle.std.proofs.lemmas.Bool.{cond_both}
 use Rattle.std.proofs.lemmas.Option.{none-some}
 use Rattle.arbiter.specs.declared.groups.Choice.{Choice}
 use Rattle.registers.specs.declared.channel.Channel.{Channel}
 use Rattle.registers.specs.Ports.{write_port, read_port}
-use Rattle.registers.specs.File.{channel_of, written, with_service, over}
+use Rattle.registers.specs.File.{channel_of, written, with_service}
 use Rattle.controller.specs.declared.controller.Bus.{Bus}
 use Rattle.controller.specs.declared.controller.Bus.TheVariants.{Home, Out, Taken}
 use Rattle.controller.specs.declared.fetching.Fetched.{Fetched as Found}
 use Rattle.controller.specs.Passing.{passes, passed}
 use Rattle.controller.specs.Asking.{first_fetching}
 use Rattle.controller.specs.Fetching.{fetch_of as fetched_from, filled}
-use Rattle.controller.specs.Grants.{holds, out_to, cycled}
-use Rattle.controller.specs.Steps.{State, with_registers, with_world, with_bus, begun, ahead_of, choose_of, choice_of, ongoing, go_or_choose, step_at, step_of}
+use Rattle.controller.specs.Grants.{holds, out_to}
+use Rattle.controller.specs.Steps.{State, with_registers, begun, ahead_of, choose_of, choice_of, ongoing, go_or_choose, step_at, step_of}
 use Rattle.runs.specs.declared.calls.Call.{Call}
 use Rattle.runs.specs.declared.calls.Call.TheVariants as call
 use Rattle.runs.specs.Calls.{Turn}
@@ -82,6 +83,10 @@ module _ (c : ℕ) (hc : c < 8) where
   by_write s p v (quiet st h) = still refl refl st h
   by_write s p v (halts st a l h) = closes refl refl st a l h
 
+  -- two states with one plan of channel c
+  abbrev Same : State → State → Type 0
+  Same s t = part_of (channel_of t.registers c) ≡ part_of (channel_of s.registers c)
+
   pub effect : (s : State) (k : Call) → Sound s.registers → begins_job c (turn_of s k) ≡ false → Effect c (turn_of s k)
   effect s (call.Write p v) h e = by_write s p v (write_effect s.registers c h.0 hc s (write_port p) v refl (port_reaches p) e)
   effect s (call.Read p) h e = still refl refl (inl refl) (read_leaves_lem s.registers c (read_port p))
@@ -89,17 +94,8 @@ module _ (c : ℕ) (hc : c < 8) where
   effect s call.Step h e = by_step s (step_effect s h)
   effect s (call.Inspect d) h e = still refl refl (inl refl) refl
   effect s call.Take h e = still refl refl (inl refl) refl
-  effect s (call.Cycle x) h e = still refl refl (inl refl) (go (holds s.bus (out_to s.bus)))
-    where
-      go : (q : Bool) → part_of (channel_of (cond q (with_world (cycled x s.world) s) s).registers c) ≡ part_of (channel_of s.registers c)
-      go true = refl
-      go false = refl
-  effect s call.Release h e = still refl refl (inl refl) (go (holds s.bus (out_to s.bus)))
-    where
-      go : (q : Bool)
-          → part_of (channel_of (cond q (with_bus Home (with_registers (with_service (over (out_to s.bus) s.registers.service) s.registers) s)) s).registers c) ≡ part_of (channel_of s.registers c)
-      go true = refl
-      go false = refl
+  effect s (call.Cycle x) h e = still refl refl (inl refl) (cond_both (holds s.bus (out_to s.bus)) _ _ (Same s) (λ _. refl) (λ _. refl))
+  effect s call.Release h e = still refl refl (inl refl) (cond_both (holds s.bus (out_to s.bus)) _ _ (Same s) (λ _. refl) (λ _. refl))
 
   -- a transfer, whether it ends its job or not
   abbrev pub Passes : Channel → Move → Type 0
