@@ -1,5 +1,5 @@
 -- What one turn of a run does to the plan of channel c while its job goes on.
-use Rattle.std.proofs.Common.{◌≡◌, ℕ, ◌<◌, Bool, true, false, ◌⊎◌, is_some, Some, None, Ok, Option, sym, refl, ap, ◌∙◌, subst, inl}
+use Rattle.std.proofs.Common.{◌≡◌, ℕ, ◌<◌, true, false, ◌⊎◌, is_some, Some, None, Ok, Option, sym, refl, ap, ◌∙◌, subst, inl}
 use Rattle.std.proofs.lemmas.Bool.{cond_both}
 use Rattle.std.proofs.lemmas.Option.{none-some}
 use Rattle.arbiter.specs.declared.groups.Choice.{Choice}
@@ -108,29 +108,23 @@ module _ (c : ℕ) (hc : c < 8) where
       (ap (λ (x : Move). x.address) (sym same) ∙ a, ap (λ (x : Move). x.signal) (sym same) ∙ sg, r)
   step_passes s m (gets x i g f ch can w) e = absurd (none-some m (sym i ∙ e))
 
-  none_moved : (m : Move) (ch : Channel) → None ≡ Some m → Passes ch m
-  none_moved m ch e = absurd (none-some m e)
-
   pub move_passes : (s : State) (k : Call) (m : Move) → Sound s.registers → move_of c (turn_of s k) ≡ Some m → Passes (channel_of s.registers c) m
-  move_passes s (call.Write p v) m h e = none_moved m (channel_of s.registers c) e
-  move_passes s (call.Read p) m h e = none_moved m (channel_of s.registers c) e
-  move_passes s (call.Lines b) m h e = none_moved m (channel_of s.registers c) e
+  move_passes s (call.Write p v) m h e = absurd (none-some m e)
+  move_passes s (call.Read p) m h e = absurd (none-some m e)
+  move_passes s (call.Lines b) m h e = absurd (none-some m e)
   move_passes s call.Step m h e = step_passes s m (step_effect s h) e
-  move_passes s (call.Inspect d) m h e = none_moved m (channel_of s.registers c) e
-  move_passes s call.Take m h e = none_moved m (channel_of s.registers c) e
-  move_passes s (call.Cycle x) m h e = none_moved m (channel_of s.registers c) e
-  move_passes s call.Release m h e = none_moved m (channel_of s.registers c) e
+  move_passes s (call.Inspect d) m h e = absurd (none-some m e)
+  move_passes s call.Take m h e = absurd (none-some m e)
+  move_passes s (call.Cycle x) m h e = absurd (none-some m e)
+  move_passes s call.Release m h e = absurd (none-some m e)
 
   -- a transfer begins the next job of its channel if it signals
-  none_begins : (m : Move) (b : Bool) → None ≡ Some m → b ≡ is_some m.signal
-  none_begins m b e = absurd (none-some m e)
-
   pub begins_signals : (s : State) (k : Call) (m : Move) → move_of c (turn_of s k) ≡ Some m → begins_job c (turn_of s k) ≡ is_some m.signal
-  begins_signals s (call.Write p v) m e = none_begins m _ e
-  begins_signals s (call.Read p) m e = none_begins m _ e
-  begins_signals s (call.Lines b) m e = none_begins m _ e
+  begins_signals s (call.Write p v) m e = absurd (none-some m e)
+  begins_signals s (call.Read p) m e = absurd (none-some m e)
+  begins_signals s (call.Lines b) m e = absurd (none-some m e)
   begins_signals s call.Step m e = ap signalled e
-  begins_signals s (call.Inspect d) m e = none_begins m _ e
-  begins_signals s call.Take m e = none_begins m _ e
-  begins_signals s (call.Cycle x) m e = none_begins m _ e
-  begins_signals s call.Release m e = none_begins m _ e
+  begins_signals s (call.Inspect d) m e = absurd (none-some m e)
+  begins_signals s call.Take m e = absurd (none-some m e)
+  begins_signals s (call.Cycle x) m e = absurd (none-some m e)
+  begins_signals s call.Release m e = absurd (none-some m e)

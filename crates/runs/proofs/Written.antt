@@ -27,19 +27,7 @@ use Rattle.runs.proofs.Ports.{Reaches, ReachesIf, picked_below}
 
 -- a part after Stop
 abbrev pub with_stop : Part → Part
-with_stop p = record {
-  current = p.current;
-  extended = p.extended;
-  mode = p.mode;
-  addressing = p.addressing;
-  active = p.active;
-  loaded = p.loaded;
-  reserve = p.reserve;
-  ended = p.ended;
-  stopped = true;
-  entries = p.entries;
-  next = p.next;
-}
+with_stop p = record p { stopped = true }
 
 -- what an access does to channel c's part, where `stop` says whether it was an accepted Stop of c
 pub data Accessed (c : ℕ) (k : Registers) (stop : Bool) (k' : Registers) : Type 0 where
