@@ -1,5 +1,5 @@
 -- Where the bus is after a step: a step never takes it, so a grant that is held stays held.
-use Rattle.std.proofs.Common.{◌≡◌, Some, None, Option, refl}
+use Rattle.std.proofs.Common.{◌≡◌, Some, None, Option, sym, refl, subst}
 use Rattle.controller.specs.declared.controller.Bus.{Bus}
 use Rattle.controller.specs.declared.controller.Bus.TheVariants.{Home, Out, Taken}
 use Rattle.controller.specs.declared.grant.Grant.{Grant}
@@ -24,5 +24,5 @@ held_at g s Home e h = at_home g s e h
 held_at g s (Out c) e h = rw e h
 held_at g s (Taken c) e h = rw e h
 
-pub step_holding : (g : Option Grant) (s : State) → Holding g s.bus → Holding g (step_of s).0.bus
-step_holding g s h = held_at g s s.bus refl h
+pub step_holding : (g : Option Grant) (s t : State) → t ≡ (step_of s).0 → Holding g s.bus → Holding g t.bus
+step_holding g s t e h = let P : State → Type 0 = λ x. Holding g x.bus in subst P (sym e) (held_at g s s.bus refl h)

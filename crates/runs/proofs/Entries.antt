@@ -143,10 +143,10 @@ pub record Got (l : Course) (p p' : Part) (x : Entry) (o : Outside) : Type 0 whe
   pub closing : is_closed p' ≡ x.last
 
 abbrev part_fetched : Entry → Part → Part
-part_fetched x p = record { current = p.current; extended = p.extended; mode = p.mode; addressing = p.addressing; active = p.active; loaded = true; reserve = Some x.entry; ended = x.last; stopped = p.stopped; entries = (p.entries + 1) % 65536; next = x.next }
+part_fetched x p = record p { loaded = true; reserve = Some x.entry; ended = x.last; entries = (p.entries + 1) % 65536; next = x.next }
 
 abbrev part_loaded : Entry → Part → Part
-part_loaded x p = record { current = entry_span x.entry; extended = true; mode = p.mode; addressing = p.addressing; active = p.active; loaded = true; reserve = p.reserve; ended = x.last; stopped = p.stopped; entries = (p.entries + 1) % 65536; next = x.next }
+part_loaded x p = record p { current = entry_span x.entry; extended = true; loaded = true; ended = x.last; entries = (p.entries + 1) % 65536; next = x.next }
 
 part_fetched_lem : (x : Entry) (ch : Channel) → ch.list.loaded ≡ true → part_of (filled x ch) ≡ part_fetched x (part_of ch)
 part_fetched_lem x ch h = rw h

@@ -1,5 +1,6 @@
 -- The slots last chosen in both groups: every access leaves them, but for a group's master clear.
-use Rattle.std.proofs.Common.{◌≡◌, ℕ, ◌/◌, ◌%◌, Bool, true, false, cond, eqb, ltb, Some, None, Option, refl, ap, ◌∙◌}
+use Rattle.std.proofs.Common.{◌≡◌, ℕ, false, eqb, ltb, Some, None, Option, refl, ap, ◌∙◌}
+use Rattle.std.proofs.lemmas.Bool.{cond_both}
 use Rattle.registers.specs.declared.channel.Channel.{Channel}
 use Rattle.registers.specs.declared.group.Group.{Group}
 use Rattle.registers.specs.declared.file.Registers.{Registers}
@@ -14,11 +15,11 @@ use Rattle.registers.specs.declared.ports.WritePort.TheVariants as write
 use Rattle.registers.specs.declared.ports.ReadPort.{ReadPort}
 use Rattle.registers.specs.declared.ports.ReadPort.TheVariants as read
 use Rattle.registers.specs.Modes.{flag}
-use Rattle.registers.specs.Channels.{list_begins, with_list_command}
-use Rattle.registers.specs.Groups.{with_slot, with_command, with_pointer, flipped, with_masks, with_lines, without_terminals, cleared_group}
+use Rattle.registers.specs.Channels.{list_begins}
+use Rattle.registers.specs.Groups.{with_slot, with_command, with_pointer, flipped, with_masks, without_terminals, cleared_group}
 use Rattle.registers.specs.Ports.{write_port, read_port}
-use Rattle.registers.specs.File.{channel_of, at_first, at_second, at_group_of, at_dma, with_channel, with_service, programmed, picked, over_in, refusal_at}
-use Rattle.registers.specs.File.{field_written, control_written, accepted_at, written_for, written, field_read, read_at, read_for, read_leaves, lined}
+use Rattle.registers.specs.File.{channel_of, at_group_of, at_dma, with_channel, with_service, programmed, picked, over_in, refusal_at}
+use Rattle.registers.specs.File.{field_written, control_written, list_written, accepted_at, written_for, written, field_read, read_at, read_for, read_leaves, lined}
 
 -- the slots last chosen in both groups
 abbrev pub lasts : Registers → ℕ × ℕ
@@ -35,12 +36,8 @@ module _ (f : Group → Group) (same : (g : Group) → (f g).last ≡ g.last) (k
   dma_stays One = ap (λ (n : ℕ). (n, k.second.last)) (same k.first)
   dma_stays Two = ap (λ (n : ℕ). (k.first.last, n)) (same k.second)
 
-  either_stays : (b : Bool) → lasts (cond b (at_first f k) (at_second f k)) ≡ lasts k
-  either_stays true = dma_stays One
-  either_stays false = dma_stays Two
-
   group_stays : (c : ℕ) → lasts (at_group_of c f k) ≡ lasts k
-  group_stays c = either_stays (ltb c 4)
+  group_stays c = cond_both (ltb c 4) _ _ (λ m. lasts m ≡ lasts k) (λ _. dma_stays One) (λ _. dma_stays Two)
 
 pub channel_stays : (c : ℕ) (ch : Channel) (k : Registers) → lasts (with_channel c ch k) ≡ lasts k
 channel_stays c ch k = group_stays (with_slot c ch) (λ g. refl) k c
@@ -55,9 +52,8 @@ field_stays field.LowPage c v k = channel_stays c _ k
 field_stays field.HighPage c v k = channel_stays c _ k
 field_stays (field.Table n) c v k = channel_stays c _ k
 
-list_stays : (b : Bool) (c : ℕ) (ch : Channel) (k : Registers) → lasts (cond b (programmed c ch k) (with_channel c ch k)) ≡ lasts k
-list_stays true c ch k = channel_stays c ch k
-list_stays false c ch k = channel_stays c ch k
+list_stays : (c v : ℕ) (k : Registers) → lasts (list_written c v k) ≡ lasts k
+list_stays c v k = cond_both (list_begins v (channel_of k c)) _ _ (λ m. lasts m ≡ lasts k) (λ _. channel_stays c _ k) (λ _. channel_stays c _ k)
 
 control_left : (x : Control) (d : Dma) (v : ℕ) (k : Registers) → Left k (control_written x d v k)
 control_left control.Command d v k = stay (dma_stays (with_command v) (λ g. refl) k d)
@@ -72,17 +68,13 @@ control_left control.AllMasks d v k = stay (dma_stays (with_masks v) (λ g. refl
 
 accepted_left : (w : WritePort) (v : ℕ) (k : Registers) → Left k (accepted_at w v k)
 accepted_left (write.Field f c) v k = stay (field_stays f c v k)
-accepted_left (write.ListCommand c) v k = stay (list_stays (list_begins v (channel_of k c)) c (with_list_command v (channel_of k c)) k)
+accepted_left (write.ListCommand c) v k = stay (list_stays c v k)
 accepted_left (write.Control x d) v k = control_left x d v k
 
 -- a refused access leaves everything
-unless_refused : (b : Bool) (k m : Registers) → Left k m → Left k (cond b m k)
-unless_refused true k m l = l
-unless_refused false k m l = stay refl
-
 port_left : (w : Option WritePort) (v : ℕ) (k : Registers) → Left k (written_for w v k)
 port_left None v k = stay refl
-port_left (Some w) v k = unless_refused (eqb (refusal_at k w v) 0) k (accepted_at w v k) (accepted_left w v k)
+port_left (Some w) v k = cond_both (eqb (refusal_at k w v) 0) _ _ (Left k) (λ _. accepted_left w v k) (λ _. stay refl)
 
 pub write_left : (p v : ℕ) (k : Registers) → Left k (written p v k)
 write_left p v k = port_left (write_port p) v k
@@ -108,9 +100,5 @@ read_for_stays (Some p) k = port_stays p k
 pub read_stays : (p : ℕ) (k : Registers) → lasts (read_leaves p k) ≡ lasts k
 read_stays p k = read_for_stays (read_port p) k
 
-either_lines : (b : Bool) (v : ℕ) (k : Registers) → lasts (cond b k (at_second (with_lines (v / 16)) (at_first (with_lines (v % 16)) k))) ≡ lasts k
-either_lines true v k = refl
-either_lines false v k = refl
-
 pub lines_stay : (v : ℕ) (k : Registers) → lasts (lined v k) ≡ lasts k
-lines_stay v k = either_lines (flag 16 v) v k
+lines_stay v k = cond_both (flag 16 v) _ _ (λ m. lasts m ≡ lasts k) (λ _. refl) (λ _. refl)

@@ -60,10 +60,10 @@ own_course l ch r h = ap (λ b. record { addressing = ch.addressing; extended = 
 
 -- the registers after a transfer
 abbrev pub part_with : Span → Part → Part
-part_with x p = record { current = x; extended = p.extended; mode = p.mode; addressing = p.addressing; active = p.active; loaded = p.loaded; reserve = p.reserve; ended = p.ended; stopped = p.stopped; entries = p.entries; next = p.next }
+part_with x p = record p { current = x }
 
 abbrev pub part_holding : Span → Bool → Bool → Part → Part
-part_holding x e b p = record { current = x; extended = e; mode = p.mode; addressing = p.addressing; active = p.active; loaded = b; reserve = None; ended = p.ended; stopped = p.stopped; entries = p.entries; next = p.next }
+part_holding x e b p = record p { current = x; extended = e; loaded = b; reserve = None }
 
 pub part_mid : (ch : Channel) → eqb ch.current.count 0 ≡ false → part_of (passed ch).channel ≡ part_with (stepped ch) (part_of ch)
 part_mid ch z = rw z

@@ -1,5 +1,6 @@
 -- What stays true of the registers over every run: groups of four channels, and a service of one of them.
-use Rattle.std.proofs.Common.{◌≡◌, ℕ, ◌/◌, ◌%◌, ◌<◌, Bool, true, false, cond, eqb, ltb, length, Some, None, Option, sym, refl, subst, arith}
+use Rattle.std.proofs.Common.{◌≡◌, ℕ, ◌<◌, Bool, true, false, cond, eqb, ltb, length, Some, None, Option, sym, refl, subst, arith}
+use Rattle.std.proofs.lemmas.Bool.{cond_both}
 use Rattle.arbiter.specs.declared.groups.Choice.{Choice}
 use Rattle.arbiter.specs.Groups.{Group as Side, Served, ServedBy}
 use Rattle.registers.specs.declared.channel.Channel.{Channel}
@@ -17,15 +18,13 @@ use Rattle.registers.specs.declared.ports.ReadPort.{ReadPort}
 use Rattle.registers.specs.declared.ports.ReadPort.TheVariants as source
 use Rattle.registers.specs.Modes.{flag}
 use Rattle.registers.specs.Ports.{write_port, read_port}
-use Rattle.registers.specs.Channels.{with_list_command, list_begins}
-use Rattle.registers.specs.Groups as Groups
-use Rattle.registers.specs.Groups.{flipped, with_command, with_pointer, with_masks, with_lines, without_terminals, cleared_group}
-use Rattle.registers.specs.File.{channel_of, with_channel, with_service, at_first, at_second, at_group_of, at_dma, programmed, over, over_in, picked, accepted_at, written_for, refusal_at, control_written, field_written, list_written, read_for, read_at, lined}
+use Rattle.registers.specs.Channels.{list_begins}
+use Rattle.registers.specs.Groups.{flipped, with_command, with_pointer, with_masks, without_terminals, cleared_group}
+use Rattle.registers.specs.File.{channel_of, with_channel, at_first, at_second, at_group_of, at_dma, programmed, over, over_in, picked, accepted_at, written_for, refusal_at, control_written, field_written, list_written, read_for, read_at, lined}
 use Rattle.controller.specs.declared.controller.Bus.{Bus}
-use Rattle.controller.specs.declared.controller.Bus.TheVariants.{Home}
 use Rattle.controller.specs.Asking.{goes_on, fetches, first_fetching}
-use Rattle.controller.specs.Grants.{holds, out_to, cycled}
-use Rattle.controller.specs.Steps.{State, with_registers, with_world, with_bus, begun, choice_of, ongoing, step_at}
+use Rattle.controller.specs.Grants.{holds, out_to}
+use Rattle.controller.specs.Steps.{State, begun, choice_of, ongoing, step_at}
 use Rattle.runs.specs.declared.calls.Call.{Call}
 use Rattle.runs.specs.declared.calls.Call.TheVariants as call
 use Rattle.runs.specs.Calls.{performed}
@@ -43,25 +42,13 @@ Sound k = Four k × Serviced k.service
 
 over_serviced : (c : ℕ) (o : Option ℕ) → Serviced o → Serviced (over c o)
 over_serviced c None h = tt
-over_serviced c (Some d) h = go (eqb c d)
-  where
-    go : (q : Bool) → Serviced (cond q None (Some d))
-    go true = tt
-    go false = h
+over_serviced c (Some d) h = cond_both (eqb c d) None (Some d) Serviced (λ _. tt) (λ _. h)
 
 over_in_serviced : (d : Dma) (o : Option ℕ) → Serviced o → Serviced (over_in d o)
 over_in_serviced One None h = tt
 over_in_serviced Two None h = tt
-over_in_serviced One (Some c) h = go (ltb c 4)
-  where
-    go : (q : Bool) → Serviced (cond q None (Some c))
-    go true = tt
-    go false = h
-over_in_serviced Two (Some c) h = go (ltb c 4)
-  where
-    go : (q : Bool) → Serviced (cond q (Some c) None)
-    go true = h
-    go false = tt
+over_in_serviced One (Some c) h = cond_both (ltb c 4) None (Some c) Serviced (λ _. tt) (λ _. h)
+over_in_serviced Two (Some c) h = cond_both (ltb c 4) (Some c) None Serviced (λ _. h) (λ _. tt)
 
 -- a change of a group that leaves four channels
 abbrev Fours : (Group → Group) → Type 0
@@ -72,18 +59,10 @@ dma_sound f One k h s = ((h k.first s.0.0, s.0.1), s.1)
 dma_sound f Two k h s = ((s.0.0, h k.second s.0.1), s.1)
 
 group_sound : (f : Group → Group) (c : ℕ) (k : Registers) → Fours f → Sound k → Sound (at_group_of c f k)
-group_sound f c k h s = go (ltb c 4)
-  where
-    go : (q : Bool) → Sound (cond q (at_first f k) (at_second f k))
-    go true = dma_sound f One k h s
-    go false = dma_sound f Two k h s
+group_sound f c k h s = cond_both (ltb c 4) (at_first f k) (at_second f k) Sound (λ _. dma_sound f One k h s) (λ _. dma_sound f Two k h s)
 
 same_service : (c : ℕ) (ch : Channel) (k : Registers) → (with_channel c ch k).service ≡ k.service
-same_service c ch k = go (ltb c 4)
-  where
-    go : (q : Bool) → (cond q (at_first (λ g. Groups.with_slot c ch g) k) (at_second (λ g. Groups.with_slot c ch g) k)).service ≡ k.service
-    go true = refl
-    go false = refl
+same_service c ch k = cond_both (ltb c 4) _ _ (λ (m : Registers). m.service ≡ k.service) (λ _. refl) (λ _. refl)
 
 with_sound : (c : ℕ) (ch : Channel) (k : Registers) → Sound k → Sound (with_channel c ch k)
 with_sound c ch k s = (four_with k c ch s.0, subst Serviced (sym (same_service c ch k)) s.1)
@@ -99,11 +78,7 @@ field_sound HighPage c v k s = programmed_sound c _ k s
 field_sound (Table n) c v k s = with_sound c _ k s
 
 list_sound : (c v : ℕ) (k : Registers) → Sound k → Sound (list_written c v k)
-list_sound c v k s = go (list_begins v (channel_of k c))
-  where
-    go : (q : Bool) → Sound (cond q (programmed c (with_list_command v (channel_of k c)) k) (with_channel c (with_list_command v (channel_of k c)) k))
-    go true = programmed_sound c _ k s
-    go false = with_sound c _ k s
+list_sound c v k s = cond_both (list_begins v (channel_of k c)) _ _ Sound (λ _. programmed_sound c _ k s) (λ _. with_sound c _ k s)
 
 control_sound : (x : Control) (d : Dma) (v : ℕ) (k : Registers) → Sound k → Sound (control_written x d v k)
 control_sound Command d v k s = dma_sound (with_command v) d k (λ g h. h) s
@@ -123,11 +98,7 @@ accepted_sound (target.Control x d) v k s = control_sound x d v k s
 
 written_sound : (o : Option WritePort) (v : ℕ) (k : Registers) → Sound k → Sound (written_for o v k)
 written_sound None v k s = s
-written_sound (Some w) v k s = go (eqb (refusal_at k w v) 0)
-  where
-    go : (q : Bool) → Sound (cond q (accepted_at w v k) k)
-    go true = accepted_sound w v k s
-    go false = s
+written_sound (Some w) v k s = cond_both (eqb (refusal_at k w v) 0) _ _ Sound (λ _. accepted_sound w v k s) (λ _. s)
 
 read_at_sound : (p : ReadPort) (k : Registers) → Sound k → Sound (read_at p k)
 read_at_sound (source.Field Address c) k s = group_sound flipped c k (λ g h. h) s
@@ -145,11 +116,7 @@ read_sound None k s = s
 read_sound (Some p) k s = read_at_sound p k s
 
 lined_sound : (b : ℕ) (k : Registers) → Sound k → Sound (lined b k)
-lined_sound b k s = go (flag 16 b)
-  where
-    go : (q : Bool) → Sound (cond q k (at_second (with_lines (b / 16)) (at_first (with_lines (b % 16)) k)))
-    go true = s
-    go false = ((refl, refl), s.1)
+lined_sound b k s = cond_both (flag 16 b) _ _ Sound (λ _. s) (λ _. ((refl, refl), s.1))
 
 -- the channel that wins is below eight
 won_below : (f g : Side) (channel slot : ℕ) (o : Option ℕ) → ServedBy f g channel slot o → channel < 8
@@ -177,11 +144,7 @@ ahead_below k = first_or_fetching k 0 _ _ refl (omega arith) (first_or_fetching 
 -- a service that goes on is of a channel below eight
 pub ongoing_below : (k : Registers) (o : Option ℕ) → Serviced o → Serviced (ongoing k o)
 ongoing_below k None h = tt
-ongoing_below k (Some c) h = go (goes_on k c)
-  where
-    go : (q : Bool) → Serviced (cond q (Some c) None)
-    go true = h
-    go false = tt
+ongoing_below k (Some c) h = cond_both (goes_on k c) (Some c) None Serviced (λ _. h) (λ _. tt)
 
 -- a step leaves the registers sound
 abbrev Low : ℕ → Type 0
@@ -209,13 +172,6 @@ sound_kept s (call.Lines b) h = lined_sound b s.registers h
 sound_kept s call.Step h = step_sound s s.bus h
 sound_kept s (call.Inspect c) h = h
 sound_kept s call.Take h = h
-sound_kept s (call.Cycle x) h = go (holds s.bus (out_to s.bus))
-  where
-    go : (q : Bool) → Sound (cond q (with_world (cycled x s.world) s) s).registers
-    go true = h
-    go false = h
-sound_kept s call.Release h = go (holds s.bus (out_to s.bus))
-  where
-    go : (q : Bool) → Sound (cond q (with_bus Home (with_registers (with_service (over (out_to s.bus) s.registers.service) s.registers) s)) s).registers
-    go true = (h.0, over_serviced (out_to s.bus) s.registers.service h.1)
-    go false = h
+sound_kept s (call.Cycle x) h = cond_both (holds s.bus (out_to s.bus)) _ _ (λ (t : State). Sound t.registers) (λ _. h) (λ _. h)
+sound_kept s call.Release h = cond_both (holds s.bus (out_to s.bus)) _ _ (λ (t : State). Sound t.registers)
+    (λ _. (h.0, over_serviced (out_to s.bus) s.registers.service h.1)) (λ _. h)

@@ -1,5 +1,6 @@
 -- What stays true over a step: whatever each change that a step makes to the state keeps.
 use Rattle.std.proofs.Common.{◌≡◌, ℕ, Bool, true, false, cond, not, ◌&&◌, Some, None, Ok, Err, Option, Result, refl}
+use Rattle.std.proofs.lemmas.Bool.{cond_both}
 use Rattle.arbiter.specs.declared.groups.Choice.{Choice}
 use Rattle.registers.specs.declared.channel.Channel.{Channel}
 use Rattle.registers.specs.Modes.{is_cascade}
@@ -65,11 +66,8 @@ module _ (P : State → Type 0) (Good : ℕ → Type 0) (k : Keeps P Good) where
 
     ongoing_keeps : (s : State) (o : Option ℕ) → s.registers.service ≡ o → P s → P (go_or_choose s (ongoing s.registers o)).0
     ongoing_keeps s None e h = choose_keeps s (choice_of s.registers) refl h
-    ongoing_keeps s (Some c) e h = go (goes_on s.registers c)
-      where
-        go : (q : Bool) → P (go_or_choose s (cond q (Some c) None)).0
-        go true = serve_keeps s c (going s c e h) h
-        go false = choose_keeps s (choice_of s.registers) refl h
+    ongoing_keeps s (Some c) e h = cond_both (goes_on s.registers c) (Some c) None (λ o. P (go_or_choose s o).0)
+        (λ _. serve_keeps s c (going s c e h) h) (λ _. choose_keeps s (choice_of s.registers) refl h)
 
     pub step_keeps : (s : State) (b : Bus) → P s → P (step_at s b).0
     step_keeps s Home h = ongoing_keeps s s.registers.service refl h

@@ -1,18 +1,19 @@
 -- What one turn of a run does to the plan of channel c while its job goes on.
-use Rattle.std.proofs.Common.{◌≡◌, ℕ, ◌<◌, Bool, true, false, cond, ◌⊎◌, is_some, Some, None, Ok, Option, sym, refl, ap, ◌∙◌, subst, inl}
+use Rattle.std.proofs.Common.{◌≡◌, ℕ, ◌<◌, true, false, ◌⊎◌, is_some, Some, None, Ok, Option, sym, refl, ap, ◌∙◌, subst, inl}
+use Rattle.std.proofs.lemmas.Bool.{cond_both}
 use Rattle.std.proofs.lemmas.Option.{none-some}
 use Rattle.arbiter.specs.declared.groups.Choice.{Choice}
 use Rattle.registers.specs.declared.channel.Channel.{Channel}
 use Rattle.registers.specs.Ports.{write_port, read_port}
-use Rattle.registers.specs.File.{channel_of, written, with_service, over}
+use Rattle.registers.specs.File.{channel_of, written, with_service}
 use Rattle.controller.specs.declared.controller.Bus.{Bus}
 use Rattle.controller.specs.declared.controller.Bus.TheVariants.{Home, Out, Taken}
 use Rattle.controller.specs.declared.fetching.Fetched.{Fetched as Found}
 use Rattle.controller.specs.Passing.{passes, passed}
 use Rattle.controller.specs.Asking.{first_fetching}
 use Rattle.controller.specs.Fetching.{fetch_of as fetched_from, filled}
-use Rattle.controller.specs.Grants.{holds, out_to, cycled}
-use Rattle.controller.specs.Steps.{State, with_registers, with_world, with_bus, begun, ahead_of, choose_of, choice_of, ongoing, go_or_choose, step_at, step_of}
+use Rattle.controller.specs.Grants.{holds, out_to}
+use Rattle.controller.specs.Steps.{State, with_registers, begun, ahead_of, choose_of, choice_of, ongoing, go_or_choose, step_at, step_of}
 use Rattle.runs.specs.declared.calls.Call.{Call}
 use Rattle.runs.specs.declared.calls.Call.TheVariants as call
 use Rattle.runs.specs.Calls.{Turn}
@@ -82,6 +83,10 @@ module _ (c : ℕ) (hc : c < 8) where
   by_write s p v (quiet st h) = still refl refl st h
   by_write s p v (halts st a l h) = closes refl refl st a l h
 
+  -- two states with one plan of channel c
+  abbrev Same : State → State → Type 0
+  Same s t = part_of (channel_of t.registers c) ≡ part_of (channel_of s.registers c)
+
   pub effect : (s : State) (k : Call) → Sound s.registers → begins_job c (turn_of s k) ≡ false → Effect c (turn_of s k)
   effect s (call.Write p v) h e = by_write s p v (write_effect s.registers c h.0 hc s (write_port p) v refl (port_reaches p) e)
   effect s (call.Read p) h e = still refl refl (inl refl) (read_leaves_lem s.registers c (read_port p))
@@ -89,17 +94,8 @@ module _ (c : ℕ) (hc : c < 8) where
   effect s call.Step h e = by_step s (step_effect s h)
   effect s (call.Inspect d) h e = still refl refl (inl refl) refl
   effect s call.Take h e = still refl refl (inl refl) refl
-  effect s (call.Cycle x) h e = still refl refl (inl refl) (go (holds s.bus (out_to s.bus)))
-    where
-      go : (q : Bool) → part_of (channel_of (cond q (with_world (cycled x s.world) s) s).registers c) ≡ part_of (channel_of s.registers c)
-      go true = refl
-      go false = refl
-  effect s call.Release h e = still refl refl (inl refl) (go (holds s.bus (out_to s.bus)))
-    where
-      go : (q : Bool)
-          → part_of (channel_of (cond q (with_bus Home (with_registers (with_service (over (out_to s.bus) s.registers.service) s.registers) s)) s).registers c) ≡ part_of (channel_of s.registers c)
-      go true = refl
-      go false = refl
+  effect s (call.Cycle x) h e = still refl refl (inl refl) (cond_both (holds s.bus (out_to s.bus)) _ _ (Same s) (λ _. refl) (λ _. refl))
+  effect s call.Release h e = still refl refl (inl refl) (cond_both (holds s.bus (out_to s.bus)) _ _ (Same s) (λ _. refl) (λ _. refl))
 
   -- a transfer, whether it ends its job or not
   abbrev pub Passes : Channel → Move → Type 0
@@ -112,29 +108,23 @@ module _ (c : ℕ) (hc : c < 8) where
       (ap (λ (x : Move). x.address) (sym same) ∙ a, ap (λ (x : Move). x.signal) (sym same) ∙ sg, r)
   step_passes s m (gets x i g f ch can w) e = absurd (none-some m (sym i ∙ e))
 
-  none_moved : (m : Move) (ch : Channel) → None ≡ Some m → Passes ch m
-  none_moved m ch e = absurd (none-some m e)
-
   pub move_passes : (s : State) (k : Call) (m : Move) → Sound s.registers → move_of c (turn_of s k) ≡ Some m → Passes (channel_of s.registers c) m
-  move_passes s (call.Write p v) m h e = none_moved m (channel_of s.registers c) e
-  move_passes s (call.Read p) m h e = none_moved m (channel_of s.registers c) e
-  move_passes s (call.Lines b) m h e = none_moved m (channel_of s.registers c) e
+  move_passes s (call.Write p v) m h e = absurd (none-some m e)
+  move_passes s (call.Read p) m h e = absurd (none-some m e)
+  move_passes s (call.Lines b) m h e = absurd (none-some m e)
   move_passes s call.Step m h e = step_passes s m (step_effect s h) e
-  move_passes s (call.Inspect d) m h e = none_moved m (channel_of s.registers c) e
-  move_passes s call.Take m h e = none_moved m (channel_of s.registers c) e
-  move_passes s (call.Cycle x) m h e = none_moved m (channel_of s.registers c) e
-  move_passes s call.Release m h e = none_moved m (channel_of s.registers c) e
+  move_passes s (call.Inspect d) m h e = absurd (none-some m e)
+  move_passes s call.Take m h e = absurd (none-some m e)
+  move_passes s (call.Cycle x) m h e = absurd (none-some m e)
+  move_passes s call.Release m h e = absurd (none-some m e)
 
   -- a transfer begins the next job of its channel if it signals
-  none_begins : (m : Move) (b : Bool) → None ≡ Some m → b ≡ is_some m.signal
-  none_begins m b e = absurd (none-some m e)
-
   pub begins_signals : (s : State) (k : Call) (m : Move) → move_of c (turn_of s k) ≡ Some m → begins_job c (turn_of s k) ≡ is_some m.signal
-  begins_signals s (call.Write p v) m e = none_begins m _ e
-  begins_signals s (call.Read p) m e = none_begins m _ e
-  begins_signals s (call.Lines b) m e = none_begins m _ e
+  begins_signals s (call.Write p v) m e = absurd (none-some m e)
+  begins_signals s (call.Read p) m e = absurd (none-some m e)
+  begins_signals s (call.Lines b) m e = absurd (none-some m e)
   begins_signals s call.Step m e = ap signalled e
-  begins_signals s (call.Inspect d) m e = none_begins m _ e
-  begins_signals s call.Take m e = none_begins m _ e
-  begins_signals s (call.Cycle x) m e = none_begins m _ e
-  begins_signals s call.Release m e = none_begins m _ e
+  begins_signals s (call.Inspect d) m e = absurd (none-some m e)
+  begins_signals s call.Take m e = absurd (none-some m e)
+  begins_signals s (call.Cycle x) m e = absurd (none-some m e)
+  begins_signals s call.Release m e = absurd (none-some m e)

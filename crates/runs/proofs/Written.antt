@@ -1,7 +1,7 @@
 -- What a driver's access does to the plan of a channel whose job goes on: nothing, but for a Stop.
 use Rattle.std.proofs.Common.{◌≡◌, ℕ, ◌/◌, ◌%◌, ◌<◌, Bool, true, false, cond, ◌&&◌, eqb, ltb, ◌⊎◌, Some, None, Option, sym, refl, ap, ◌∙◌, inl, inr, arith}
 use Rattle.std.proofs.Math.Bool.{and-false}
-use Rattle.std.proofs.lemmas.Bool.{true≢false as never}
+use Rattle.std.proofs.lemmas.Bool.{true≢false as never, cond_both}
 use Rattle.registers.specs.declared.channel.Channel.{Channel}
 use Rattle.registers.specs.declared.group.Group.{Group}
 use Rattle.registers.specs.declared.file.Registers.{Registers}
@@ -18,7 +18,7 @@ use Rattle.registers.specs.declared.ports.ReadPort.TheVariants as source
 use Rattle.registers.specs.Modes.{flag}
 use Rattle.registers.specs.Channels.{with_table_byte, with_list_command, list_begins, with_mask, with_line, with_terminal}
 use Rattle.registers.specs.Groups.{slot_of, flipped, with_command, with_pointer, with_masks, with_lines, without_terminals, cleared_group}
-use Rattle.registers.specs.File.{channel_of, with_channel, at_first, at_second, at_group_of, at_dma, programmed, picked, accepted_at, written_for, refusal_for, refusal_at, control_written, field_written, list_written, read_for, read_at, lined}
+use Rattle.registers.specs.File.{channel_of, with_channel, at_first, at_second, at_group_of, at_dma, picked, accepted_at, written_for, refusal_for, refusal_at, control_written, field_written, list_written, read_for, read_at, lined}
 use Rattle.controller.specs.Steps.{State}
 use Rattle.runs.specs.Words.{in_group, field_begins, control_begins, list_begins_for, write_begins, stop_at}
 use Rattle.runs.proofs.Slots.{Four, channel_with, channel_same, channel_other}
@@ -27,19 +27,7 @@ use Rattle.runs.proofs.Ports.{Reaches, ReachesIf, picked_below}
 
 -- a part after Stop
 abbrev pub with_stop : Part → Part
-with_stop p = record {
-  current = p.current;
-  extended = p.extended;
-  mode = p.mode;
-  addressing = p.addressing;
-  active = p.active;
-  loaded = p.loaded;
-  reserve = p.reserve;
-  ended = p.ended;
-  stopped = true;
-  entries = p.entries;
-  next = p.next;
-}
+with_stop p = record p { stopped = true }
 
 -- what an access does to channel c's part, where `stop` says whether it was an accepted Stop of c
 pub data Accessed (c : ℕ) (k : Registers) (stop : Bool) (k' : Registers) : Type 0 where
@@ -64,11 +52,8 @@ module _ (k : Registers) (c d : ℕ) (x : Channel) (f : Four k) (hc : c < 8) (hd
       go false q = other q
 
 flip_leaves : (d c : ℕ) (k : Registers) → part_of (channel_of (at_group_of d flipped k) c) ≡ part_of (channel_of k c)
-flip_leaves d c k = go (ltb d 4)
-  where
-    go : (q : Bool) → part_of (channel_of (cond q (at_first flipped k) (at_second flipped k)) c) ≡ part_of (channel_of k c)
-    go true = first_leaves flipped k c (λ n. refl)
-    go false = second_leaves flipped k c (λ n. refl)
+flip_leaves d c k = cond_both (ltb d 4) _ _ (λ m. part_of (channel_of m c) ≡ part_of (channel_of k c))
+    (λ _. first_leaves flipped k c (λ n. refl)) (λ _. second_leaves flipped k c (λ n. refl))
 
 dma_leaves : (f : Group → Group) (d : Dma) (k : Registers) (c : ℕ) → ((g : Group) (n : ℕ) → part_of (slot_of (f g) n) ≡ part_of (slot_of g n))
     → part_of (channel_of (at_dma d f k) c) ≡ part_of (channel_of k c)
@@ -129,11 +114,8 @@ module _ (k : Registers) (c : ℕ) (f : Four k) (hc : c < 8) where
       go true true i j = halts refl i j (ap part_of (channel_same k c _ f hc) ∙ rw (p, q, i, j))
 
   list_effect : (d v : ℕ) (q : Bool) → d < 8 → eqb c d ≡ q → (q && list_begins_for (channel_of k d) v) ≡ false → Accessed c k (q && eqb (v % 4) 2) (list_written d v k)
-  list_effect d v false hd q e = quiet (inl refl) (go (list_begins v (channel_of k d)))
-    where
-      go : (b : Bool) → part_of (channel_of (cond b (programmed d (with_list_command v (channel_of k d)) k) (with_channel d (with_list_command v (channel_of k d)) k)) c) ≡ part_of (channel_of k c)
-      go true = other k c d _ f hc hd q
-      go false = other k c d _ f hc hd q
+  list_effect d v false hd q e = quiet (inl refl) (cond_both (list_begins v (channel_of k d)) _ _ (λ m. part_of (channel_of m c) ≡ part_of (channel_of k c))
+      (λ _. other k c d _ f hc hd q) (λ _. other k c d _ f hc hd q))
   list_effect d v true hd q e =
       let same : d ≡ c = grind arith in
       rw same (let e' : list_begins v (channel_of k c) ≡ false = (rw same at e) in rw e' (command_effect v (eqb (v % 4) 1) (eqb (v % 4) 2) refl refl e'))
@@ -171,9 +153,6 @@ read_leaves_lem k c None = refl
 read_leaves_lem k c (Some p) = read_at_lem k c p
 
 pub lined_leaves : (k : Registers) (c b : ℕ) → part_of (channel_of (lined b k) c) ≡ part_of (channel_of k c)
-lined_leaves k c b = go (flag 16 b)
-  where
-    go : (q : Bool) → part_of (channel_of (cond q k (at_second (with_lines (b / 16)) (at_first (with_lines (b % 16)) k))) c) ≡ part_of (channel_of k c)
-    go true = refl
-    go false = second_leaves (with_lines (b / 16)) (at_first (with_lines (b % 16)) k) c (lines_leave (b / 16) k.second)
-        ∙ first_leaves (with_lines (b % 16)) k c (lines_leave (b % 16) k.first)
+lined_leaves k c b = cond_both (flag 16 b) _ _ (λ m. part_of (channel_of m c) ≡ part_of (channel_of k c)) (λ _. refl)
+    (λ _. second_leaves (with_lines (b / 16)) (at_first (with_lines (b % 16)) k) c (lines_leave (b / 16) k.second)
+        ∙ first_leaves (with_lines (b % 16)) k c (lines_leave (b % 16) k.first))

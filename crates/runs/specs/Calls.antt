@@ -3,15 +3,18 @@ use Rattle.std.specs.Prelude.{ℕ, List, [], ◌∷◌, map, Some, None, Option}
 use Rattle.std.specs.Coded.{Unit-prop, Coded-set, coded_ℕ}
 use Rattle.std.proofs.Math.Path as Path
 use Rattle.registers.specs.File.{write_number, written, read_number, read_value, read_leaves, lines_number, lined}
+use Rattle.controller.specs.declared.controller.Controller.{Controller}
 use Rattle.controller.specs.declared.controller.Bus.{Bus}
 use Rattle.controller.specs.declared.grant.Grant.{Grant}
 use Rattle.controller.specs.declared.controller.Bus.TheVariants.{Home, Out, Taken}
-use Rattle.controller.specs.Steps.{State, with_registers, with_bus, step_of}
+use Rattle.controller.specs.Steps.{State, state_of, with_registers, with_bus, step_of}
+use Rattle.controller.specs.Outside.{Outside, Does}
 use Rattle.controller.specs.Inspecting.{inspect_number, inspected}
 use Rattle.controller.specs.Grants.{take_number, took_bus, out_to, cycle_number, cycle_value, after_cycle, release_number, released}
 use Rattle.runs.specs.declared.calls.Call.{Call}
 use Rattle.runs.specs.declared.calls.Call.TheVariants as call
-use Rattle.runs.specs.Told.{Told}
+use Rattle.runs.specs.declared.calls.Answer.{Answer}
+use Rattle.runs.specs.Told.{Told, told_of}
 use Rattle.runs.specs.Told as told
 
 -- the channel of the grant that a take gives, 0 where it is refused
@@ -30,6 +33,10 @@ performed s (call.Inspect c) = (s, told.Inspect (inspect_number c) (inspected s.
 performed s call.Take = (with_bus (took_bus s.bus) s, told.Take (take_number s.bus) (granted_to s.bus))
 performed s (call.Cycle x) = (after_cycle (out_to s.bus) x s, told.Cycle (cycle_number s (out_to s.bus) x) (cycle_value s (out_to s.bus) x))
 performed s call.Release = (released (out_to s.bus) s, told.Release (release_number s (out_to s.bus)))
+
+-- a call that touches neither memory nor devices: whatever a controller works on, it becomes and answers what the machine does
+abbrev pub Performs : Controller → Call → Controller → Answer → Type 0
+Performs old k new r = (o : Outside) → Does (performed (state_of old o) k) (state_of new o) (told_of r)
 
 -- a grant is held exactly while the bus is taken, and for the channel that it is out to
 abbrev pub Holding : Option Grant → Bus → Type 0

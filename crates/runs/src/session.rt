@@ -6,7 +6,7 @@ ghost use Rattle.controller.specs.Grants.{out_to, released};
 ghost use Rattle.runs.specs.declared.calls.Call.TheVariants as call;
 ghost use Rattle.runs.specs.declared.calls.Answer.TheVariants as answer;
 ghost use Rattle.runs.specs.Told.{told_of};
-ghost use Rattle.runs.specs.Calls.{performed, Holding, Holding-prop};
+ghost use Rattle.runs.specs.Calls.{performed, Performs, Holding, Holding-prop};
 
 use crate::calls::{Answer, Call};
 use controller::controller::Controller;
@@ -24,7 +24,7 @@ pub struct Session {
 // Gives the bus back under the grant that is held; without one there is nothing to give back.
 fn give_back(controller: &mut Controller, grant: Option<Grant>) -> Result<(), BusRefusal>
     requires { Holding grant controller.old.bus }
-    ensures { (o : Outside) → Does (performed (state_of controller.old o) call.Release) (state_of controller.new o) (told_of (answer.Release result)) }
+    ensures { Performs controller.old call.Release controller.new (answer.Release result) }
 {
     let grant = grant.ok_or(BusRefusal::NotGranted)?;
     controller.release(grant).unwrap();
@@ -44,7 +44,7 @@ impl Session {
 
     // Takes the bus, and holds the grant.
     fn take(&mut self) -> Result<u8, BusRefusal>
-        ensures { (o : Outside) → Does (performed (state_of self.old.controller o) call.Take) (state_of self.new.controller o) (told_of (answer.Take result)) }
+        ensures { Performs self.old.controller call.Take self.new.controller (answer.Take result) }
     {
         let grant = self.controller.take()?;
         let channel = grant.channel();
@@ -68,7 +68,7 @@ impl Session {
 
     // Releases the grant that is held.
     fn release(&mut self) -> Result<(), BusRefusal>
-        ensures { (o : Outside) → Does (performed (state_of self.old.controller o) call.Release) (state_of self.new.controller o) (told_of (answer.Release result)) }
+        ensures { Performs self.old.controller call.Release self.new.controller (answer.Release result) }
     {
         give_back(&mut self.controller, self.grant.take())
     }

@@ -1,9 +1,9 @@
 use Rattle.std.proofs.Common.{ap, ap₂}
 use Rattle.controller.specs.Outside.{outside_of}
-use Rattle.controller.specs.Steps.{State, state_of, step_of}
+use Rattle.controller.specs.Steps.{State, state_of}
 use Rattle.controller.specs.declared.inspect.Inspection.{Inspection}
 use Rattle.runs.specs.Told as told
-use Rattle.runs.proofs.Held.{keeps, still_held}
+use Rattle.runs.proofs.Held.{keeps}
 use Rattle.runs.proofs.Buses.{step_holding}
 use Rattle.runs.proofs.session.Session.perform.Goals as goal
 
@@ -20,7 +20,8 @@ pub invariant_of-self-in-Step : goal.invariant_of-self-in-Step
 invariant_of-self-in-Step g c =
     let was = c.args.self.now in
     let s : State = state_of was.controller (outside_of g.M.Memory g.B.PortBank c.args.memory.now c.args.bank.now) in
-    record { held = still_held was.grant (step_of s).0.bus c.step.new.self.bus (ap (λ (x : State). x.bus) c.step.ensures.does.state) (step_holding was.grant s was.held) }
+    let t : State = state_of c.step.new.self (outside_of g.M.Memory g.B.PortBank c.step.new.memory c.step.new.bank) in
+    record { held = step_holding was.grant s t c.step.ensures.does.state was.held }
 
 pub invariant_of-self-in-Inspect : goal.invariant_of-self-in-Inspect
 invariant_of-self-in-Inspect g c = let was = c.args.self.now in record { held = keeps was.grant was.controller c.inspect.new.self was.controller.registers c.inspect.ensures.state was.held }
