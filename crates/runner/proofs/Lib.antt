@@ -1,6 +1,6 @@
 -- Lemmas on runs.
 mod Stepping
-mod Turns
+mod Playing
 mod Running
 mod Hosting
 mod Examples

@@ -51,18 +51,6 @@ pub record Running (script : List ℕ) (first : Run) (block rest : List ℕ) (he
   pub long : length out ≡ length block
   pub others : drop size out ≡ drop size block
 
-pub running_none : {script : List ℕ} {first : Run} {block rest : List ℕ} {here : Run} → rest ≡ script → here ≡ first → Running script first block rest here 0 block
-running_none {script} {first} {block} {rest} {here} all starts =
-    let whole : length block ≡ length block - 0 = omega arith in
-    record {
-      places = length script;
-      enough = omega (arith, ap length all);
-      row = λ i. play_reading (read_into (length script) (sym all i)) (whole i) (sym starts i);
-      within = omega arith;
-      long = refl;
-      others = refl;
-    }
-
 -- a part of the output from size on, changed
 part_is : (size : ℕ) (out part : List ℕ) → put_mid size (length out - size) out part ≡ take size out ++ part
 part_is size out part =

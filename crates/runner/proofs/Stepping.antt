@@ -52,18 +52,6 @@ pub record Stepping (count : ℕ) (first here : Run) (steps transfers : ℕ) : T
   pub within : steps ≤ count
   pub fewer : transfers ≤ steps
 
-pub stepping_none : (count : ℕ) (r : Run) → Stepping count r r 0 0
-stepping_none count r =
-    let s = steps_of count r in
-    let whole : count ≡ count - 0 = omega arith in
-    let n : s.steps ≡ 0 + s.steps = omega arith in
-    let m : s.transfers ≡ 0 + s.transfers = omega arith in
-    record {
-      row = (λ i. record { run = s.run; steps = n i; transfers = m i }) ∙ ap (λ k. after 0 0 (steps_of k r)) whole;
-      within = omega arith;
-      fewer = omega arith;
-    }
-
 module _ {count : ℕ} {first here : Run} {steps transfers : ℕ} (so : Stepping count first here steps transfers) where
   counted : (moved : Bool) → transfers + one moved ≤ steps + 1
   counted true = omega (arith, so.fewer)

@@ -1,5 +1,6 @@
 // A controller with its tape of notices.
-ghost use Rattle.std.specs.Prelude.{◌≡◌, length};
+ghost use Rattle.std.specs.Prelude.{◌≡◌, length, ◌==◌};
+ghost use Rattle.tape.specs.Tapes.{room};
 ghost use Rattle.controller.specs.Outside.{Outside};
 ghost use Rattle.runner.specs.Plays.{run_at, opened};
 
@@ -23,5 +24,12 @@ impl<'a> Desk<'a> {
             controller: Controller::new(),
             notices: Tape::empty(cells),
         }
+    }
+
+    /// Whether no further notice finds a cell.
+    pub(crate) fn is_full(&self) -> bool
+        ensures { result ≡ (room self.now.notices == 0) }
+    {
+        self.notices.is_full()
     }
 }

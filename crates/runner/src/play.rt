@@ -17,6 +17,7 @@ use script::fault::ScriptFault;
 impl Desk<'_> {
     /// Does what a command says.
     // Memory and bank are two parameters: their owners lend them apart, and read them again afterwards.
+    // `stays` stands in each contract: it is one equation, which a definition would only rename.
     pub fn play<M: Memory, B: PortBank>(
         &mut self,
         command: Command,

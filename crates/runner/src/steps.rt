@@ -52,7 +52,7 @@ impl Desk<'_> {
     {
         let mut transfers = 0;
         for steps in 0..count {
-            if self.notices.is_full() {
+            if self.is_full() {
                 return Answer::Step { steps, transfers };
             }
             transfers += u16::from(self.step_once(memory, bank));

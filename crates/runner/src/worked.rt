@@ -9,11 +9,9 @@ pub fn worked_scripts() -> ([u8; 3], [u8; 2])
     ensures theorem { WorkedScripts }
     ensures played { (result.0 ≡ 0x82 ∷ 0x00 ∷ 0x0F ∷ []) × (result.1 ≡ 0x81 ∷ 0x01 ∷ []) }
 {
-    let mut none = [0; 0];
     let mut masks = [0; 3];
-    sillmint_run(&[0x02, 0x0F, 0x00], &mut none, &mut masks);
-    let mut none = [0; 0];
+    sillmint_run(&[0x02, 0x0F, 0x00], &mut [], &mut masks);
     let mut refused = [0; 2];
-    sillmint_run(&[0x01, 0xFF, 0x00, 0x00], &mut none, &mut refused);
+    sillmint_run(&[0x01, 0xFF, 0x00, 0x00], &mut [], &mut refused);
     (masks, refused)
 }

@@ -1,4 +1,5 @@
 // The runner for a host written in C: the static library that exports it.
+// It repeats the runner's function: a crate is a library for Rattle or a static library for C, and only the second exports.
 #![tactic(auto)]
 
 ghost use Rattle.std.specs.Prelude.{◌≡◌, length};

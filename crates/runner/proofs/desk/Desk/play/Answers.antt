@@ -3,7 +3,7 @@ use Rattle.std.proofs.Common.{ap}
 use Rattle.controller.specs.Outside.{outside_of}
 use Rattle.runner.specs.Told as told
 use Rattle.runner.specs.Plays.{run_at, with_state}
-use Rattle.runner.proofs.Turns.{plays}
+use Rattle.runner.proofs.Playing.{plays}
 use Rattle.runner.proofs.desk.Desk.play.Goals as goal
 
 pub returns-in-Out-clause-does : goal.returns-in-Out-clause-does
