@@ -44,12 +44,11 @@ fn print_script(
     machine: &mut Machine,
     seen: &mut [Seen],
 ) -> io::Result<()> {
-    let mut reader = Script::new(script);
     let mut at = 0usize;
-    loop {
-        let command = match reader.next() {
-            Ok(Some(command)) => command,
-            end => return print_end(rt, at, end.err()),
+    for command in Script::new(script) {
+        let command = match command {
+            Ok(command) => command,
+            Err(fault) => return print_end(rt, at, Some(fault)),
         };
         let answer = machine.play(command);
         let line = Line { command, answer };
@@ -57,6 +56,7 @@ fn print_script(
         seen::count(seen, answer);
         at = at.saturating_add(size(command));
     }
+    print_end(rt, at, None)
 }
 
 /// Prints the notices that the script did not ask for.
