@@ -8,10 +8,10 @@ pub returns-in-Bytes : goal.returns-in-Bytes
 returns-in-Bytes c =
     let bytes = c.to_be_bytes.result in
     let value = at_bytes c.args.addressing c.args.address c.args.old_low (get_or bytes 0 0) (get_or bytes 1 0) (search rules) (search rules) (search rules) in
-    record { value = value; back = address_back c.args.addressing c.args.address c.args.old_low _ value (search rules) }
+    record { value = search (rules, value); back = address_back c.args.addressing c.args.address c.args.old_low _ value (search rules) }
 
 pub returns-in-Words : goal.returns-in-Words
 returns-in-Words c =
     let bytes = c.to_be_bytes.result in
     let value = at_words c.args.addressing c.args.address c.args.old_low (get_or bytes 0 0) (get_or bytes 1 0) (search rules) (search rules) (search rules) in
-    record { value = value; back = address_back c.args.addressing c.args.address c.args.old_low _ value (search rules) }
+    record { value = search (rules, value); back = address_back c.args.addressing c.args.address c.args.old_low _ value (search rules) }
