@@ -9,6 +9,6 @@ use Rattle.memory.proofs.puts.least_kind.Goals as goal
 pub returns : goal.returns
 returns g c =
     let k = g.N.Memory.kind_at c.args.memory.now in
-    fold_over nat_range_steps (λ x. x) _ (λ offsets least. least ≡ least_of k c.args.address offsets) _
-    (λ offsets least offset next f' is called. let more = least_of_more k c.args.address offsets least offset next is in (search (rules, more), search rules)) _ (range_with_len 0 8) _ _ (Range-gives (record { start = 0; end = 8 })) refl c.fold.ensures.ran
-    ∙ least_of_eight k c.args.address
+    let folded : c.fold.result ≡ least_of k c.args.address (range_with_len 0 8) = fold_over nat_range_steps (λ x. x) _ (λ offsets least. least ≡ least_of k c.args.address offsets) _
+        (λ offsets least offset next f' is called. search (rules, least_of_more, is, called)) _ (range_with_len 0 8) _ _ (Range-gives (record { start = 0; end = 8 })) refl c.fold.ensures.ran in
+    folded ∙ search (rules, least_of_eight)
