@@ -42,6 +42,7 @@ fn read_byte<M: Memory>(memory: &M, channel: u8, place: u32) -> Result<u8, Fault
 fn read_word<M: Memory>(memory: &M, channel: u8, start: u32) -> Result<Word, Fault>
     ensures { result ≡ fetched_word (M.kind_at memory.now) (M.byte_at memory.now) channel start }
 {
+    // Not `array::try_from_fn`: of its error it says that some byte gave it, not that it was the first.
     let mut bytes = [0; 4];
     let mut place = start;
     for byte in &mut bytes {

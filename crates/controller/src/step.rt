@@ -53,6 +53,7 @@ fn choose(registers: &Registers) -> Option<Choice>
     )
 }
 
+// Memory and bank stay two parameters: a caller lends them apart, and a fetch and a cycle take the memory alone.
 impl Controller {
     // A transfer of a channel's unit; a fault leaves everything.
     fn transfer<M: Memory, B: PortBank>(
