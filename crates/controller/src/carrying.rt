@@ -78,8 +78,7 @@ fn offer<M: Memory, B: PortBank>(memory: &M, bank: &B, target: Target) -> Result
 
 // A unit stored where every byte of it can be written.
 fn store<M: Memory>(memory: &mut M, target: Target, unit: u16) -> Result<(), Fault>
-    requires writable { writability (M.kind_at memory.old) target.channel target.addressing target.address ≡ Ok tt }
-    requires fits { width target.channel target.addressing target.address unit ≡ Ok unit }
+    requires { and_then (writability (M.kind_at memory.old) target.channel target.addressing target.address) (width target.channel target.addressing target.address unit) ≡ Ok unit }
     ensures answer { result ≡ Ok tt }
     ensures kinds { M.kind_at memory.new ≡ M.kind_at memory.old }
     ensures bytes { M.byte_at memory.new ≡ stored_unit target.addressing (M.byte_at memory.old) target.address unit }

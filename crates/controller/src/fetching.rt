@@ -28,6 +28,7 @@ pub struct Fetched {
 }
 
 // The byte at a place of the table; absent, the fault names that place.
+// Memory and channel are no struct: each clause would say `self.now.memory.now` where it says `memory.now`.
 fn read_byte<M: Memory>(memory: &M, channel: u8, place: u32) -> Result<u8, Fault>
     ensures { result ≡ fetched_byte (M.kind_at memory.now) (M.byte_at memory.now) channel place }
 {
@@ -42,6 +43,7 @@ fn read_byte<M: Memory>(memory: &M, channel: u8, place: u32) -> Result<u8, Fault
 fn read_word<M: Memory>(memory: &M, channel: u8, start: u32) -> Result<Word, Fault>
     ensures { result ≡ fetched_word (M.kind_at memory.now) (M.byte_at memory.now) channel start }
 {
+    // Not `array::try_from_fn`: of its error it says that some byte gave it, not that it was the first.
     let mut bytes = [0; 4];
     let mut place = start;
     for byte in &mut bytes {

@@ -53,6 +53,8 @@ fn choose(registers: &Registers) -> Option<Choice>
     )
 }
 
+// Memory and bank stay two parameters: a caller lends them apart, and a fetch and a cycle take the memory alone.
+// `lenders` is a clause of each function: the memory is the caller's, so no type of this crate can hold the fact.
 impl Controller {
     // A transfer of a channel's unit; a fault leaves everything.
     fn transfer<M: Memory, B: PortBank>(
