@@ -155,4 +155,4 @@ read_leaves_lem k c (Some p) = read_at_lem k c p
 pub lined_leaves : (k : Registers) (c b : ℕ) → part_of (channel_of (lined b k) c) ≡ part_of (channel_of k c)
 lined_leaves k c b = cond_both (flag 16 b) _ _ (λ m. part_of (channel_of m c) ≡ part_of (channel_of k c)) (λ _. refl)
     (λ _. second_leaves (with_lines (b / 16)) (at_first (with_lines (b % 16)) k) c (lines_leave (b / 16) k.second)
-        ∙ first_leaves (with_lines (b % 16)) k c (lines_leave (b % 16) k.first))
+    ∙ first_leaves (with_lines (b % 16)) k c (lines_leave (b % 16) k.first))
