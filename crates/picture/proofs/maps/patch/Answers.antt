@@ -7,4 +7,4 @@ pub returns-clause-after : goal.returns-clause-after
 returns-clause-after c =
     let made = c.over-block.ensures in
     let did = c.put.ensures in
-    patch_bytes c.args.bytes.now c.args.address c.args.eight c.over-block.result c.put.new.memory (search rules) made.kinds made.bytes made.lender.2 did.bytes did.stays (search rules) (search rules)
+    patch_bytes c.args.bytes.now c.args.address c.args.eight c.over-block.result c.put.new.memory (search rules) made.kinds made.bytes made.lender.2 (search (rules, did.bytes)) did.stays (search rules) (search rules)

@@ -6,4 +6,6 @@ use Rattle.ports.proofs.Ramped.{ramp_with, counts}
 use Rattle.ports.proofs.ramps.RampBank.counting.Goals as goal
 
 pub returns : goal.returns
-returns c = c.new.ensures ∙ ap ramps_from (mapped _ (λ v. ramp_with v c.args.count) _ (λ x y q call. search rules) _ _ 0 c.map.ensures.items) ∙ counts c.args.count
+returns c =
+    let made = ap ramps_from (mapped _ (λ v. ramp_with v c.args.count) _ (λ x y q call. search rules) _ _ 0 c.map.ensures.items) in
+    c.new.ensures ∙ made ∙ search (rules, counts)
