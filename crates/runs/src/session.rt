@@ -1,7 +1,7 @@
 // A controller together with the grant that it has given.
 ghost use Rattle.std.specs.Prelude.{◌≡◌};
-ghost use Rattle.controller.specs.Outside.{Outside, outside, outside_of, Does};
-ghost use Rattle.controller.specs.Steps.{state_of, fresh};
+ghost use Rattle.controller.specs.Outside.{Outside, outside_of, with_memory, Does};
+ghost use Rattle.controller.specs.Steps.{Becomes, state_of, fresh};
 ghost use Rattle.controller.specs.Grants.{out_to, released};
 ghost use Rattle.runs.specs.declared.calls.Call.TheVariants as call;
 ghost use Rattle.runs.specs.declared.calls.Answer.TheVariants as answer;
@@ -57,7 +57,7 @@ impl Session {
 
     // A cycle under the grant that is held; without one there is no cycle.
     fn cycle<M: Memory>(&self, memory: &mut M, cycle: Cycle) -> Result<u8, BusRefusal>
-        ensures does { (o : Outside) → o.kinds ≡ M.kind_at memory.old → o.bytes ≡ M.byte_at memory.old → Does (performed (state_of self.now.controller o) (call.Cycle cycle)) (state_of self.now.controller (outside (M.kind_at memory.new) (M.byte_at memory.new) o.waiting o.kept o.free)) (told_of (answer.Cycle result)) }
+        ensures does { (o : Outside) → Does (performed (state_of self.now.controller (with_memory M.Memory memory.old o)) (call.Cycle cycle)) (state_of self.now.controller (with_memory M.Memory memory.new o)) (told_of (answer.Cycle result)) }
         ensures lenders { M.fixed memory.new ≡ M.fixed memory.old }
     {
         match &self.grant {
@@ -97,7 +97,7 @@ impl Session {
 
     // Lets the session go: a grant that is held is released.
     pub fn end(self) -> Controller
-        ensures { (o : Outside) → state_of result o ≡ released (out_to self.controller.bus) (state_of self.controller o) }
+        ensures { Becomes self.controller result (released (out_to self.controller.bus)) }
     {
         let Session {
             mut controller,

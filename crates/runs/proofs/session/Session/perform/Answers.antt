@@ -43,3 +43,6 @@ returns-in-Inspect-clause-does g c = rw c.in-Inspect.is (record {
 
 pub returns-in-Take-clause-does : goal.returns-in-Take-clause-does
 returns-in-Take-clause-does g c = rw c.in-Take.is (c.take.ensures _)
+
+pub returns-in-Cycle-clause-does : goal.returns-in-Cycle-clause-does
+returns-in-Cycle-clause-does g c = rw c.in-Cycle.is (c.cycle.ensures.does (outside_of g.M.Memory g.B.PortBank c.args.memory.now c.args.bank.now))
