@@ -5,6 +5,8 @@ ghost use Rattle.controller.specs.declared.fault.Cause.TheVariants.{Memory, Port
 
 use memory::MemoryFault;
 use ports::PortFault;
+use std::error::Error;
+use std::fmt;
 
 // Why no entry is fetched.
 #[derive(Clone, Copy, PartialEq, Eq, Debug)]
@@ -94,3 +96,27 @@ impl From<TableFault> for Cause {
         Cause::Table(refusal)
     }
 }
+
+impl fmt::Display for TableFault {
+    fn fmt<W: fmt::Write>(&self, f: &mut fmt::Formatter<W>) -> fmt::Result {
+        f.write_str(match self {
+            TableFault::EntryAbsent => "no memory at a byte of the list entry",
+            TableFault::TooManyEntries => "the list has more than 4,096 entries",
+        })
+    }
+}
+
+impl fmt::Display for Cause {
+    fn fmt<W: fmt::Write>(&self, f: &mut fmt::Formatter<W>) -> fmt::Result {
+        match self {
+            Cause::Memory(fault) => write!(f, "{fault}"),
+            Cause::Port(fault) => write!(f, "{fault}"),
+            Cause::TooWide => f.write_str("the device's unit is above 255, in a transfer of bytes"),
+            Cause::Table(fault) => write!(f, "{fault}"),
+        }
+    }
+}
+
+impl Error for TableFault {}
+
+impl Error for Cause {}

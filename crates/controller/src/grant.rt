@@ -7,6 +7,8 @@ ghost use Rattle.controller.specs.Grants.{bus_number, shown_bus, shown_release, 
 
 use crate::controller::{Bus, Controller};
 use memory::{Memory, MemoryFault};
+use std::error::Error;
+use std::fmt;
 
 // The bus, lent to the master on one channel. It is spent by `release`, and by nothing else.
 pub struct Grant {
@@ -46,6 +48,18 @@ impl BusRefusal {
         }
     }
 }
+
+impl fmt::Display for BusRefusal {
+    fn fmt<W: fmt::Write>(&self, f: &mut fmt::Formatter<W>) -> fmt::Result {
+        match self {
+            BusRefusal::NotOffered => f.write_str("the bus is not out, or is taken already"),
+            BusRefusal::NotGranted => f.write_str("the bus is not granted"),
+            BusRefusal::Memory(fault) => write!(f, "{fault}"),
+        }
+    }
+}
+
+impl Error for BusRefusal {}
 
 impl Grant {
     // The channel that the bus is lent on.
