@@ -40,7 +40,7 @@ impl fmt::Display for Order<'_> {
 fn say_refused<W: fmt::Write, R: fmt::Display>(
     f: &mut fmt::Formatter<W>,
     number: u8,
-    reason: R,
+    reason: &R,
 ) -> fmt::Result {
     write!(f, ": refused, {number}: {reason}")
 }
@@ -70,9 +70,9 @@ impl Line<'_> {
                 write!(f, ": none, {number}: {empty}")
             }
             (Answer::Out(Err(why)) | Answer::In(Err(why)) | Answer::Lines(Err(why)), _) => {
-                say_refused(f, why.number(), why)
+                say_refused(f, why.number(), &why)
             }
-            (Answer::Put(Err(why)), _) => say_refused(f, why.number(), why),
+            (Answer::Put(Err(why)), _) => say_refused(f, why.number(), &why),
             _ => Ok(()),
         }
     }
