@@ -51,11 +51,13 @@ impl fmt::Display for Notice {
     fn fmt<W: fmt::Write>(&self, f: &mut fmt::Formatter<W>) -> fmt::Result {
         match *self {
             Notice::Signal { channel, signal } => write!(f, "channel {channel} signalled {signal}"),
-            Notice::Fault(Fault {
-                cause,
-                channel,
-                address,
-            }) => {
+            Notice::Fault(
+                Fault {
+                    cause,
+                    channel,
+                    address,
+                },
+            ) => {
                 let number = cause.number();
                 write!(
                     f,

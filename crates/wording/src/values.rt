@@ -71,7 +71,11 @@ fn asked_of_channel<W: fmt::Write>(
             } = Mode::from(value);
             let transfer = transfer(value, service);
             let down = if decrement { ", down" } else { "" };
-            let again = if autoinitialise { ", autoinitialise" } else { "" };
+            let again = if autoinitialise {
+                ", autoinitialise"
+            } else {
+                ""
+            };
             write!(f, ", channel {channel} {service}{transfer}{down}{again}")
         }
         Control::ExtendedMode => {

@@ -10,5 +10,5 @@ pub returns : goal.returns
 returns g c =
     let k = g.N.Memory.kind_at c.args.memory.now in
     let folded : c.fold.result ≡ least_of k c.args.address (range_with_len 0 8) = fold_over nat_range_steps (λ x. x) _ (λ offsets least. least ≡ least_of k c.args.address offsets) _
-        (λ offsets least offset next f' is called. search (rules, least_of_more, is, called)) _ (range_with_len 0 8) _ _ (Range-gives (record { start = 0; end = 8 })) refl c.fold.ensures.ran in
+    (λ offsets least offset next f' is called. search (rules, least_of_more, is, called)) _ (range_with_len 0 8) _ _ (Range-gives (record { start = 0; end = 8 })) refl c.fold.ensures.ran in
     folded ∙ search (rules, least_of_eight)
