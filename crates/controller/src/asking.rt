@@ -8,6 +8,8 @@ use registers::group::Group;
 use registers::list::List;
 use registers::mode::Service;
 
+// The functions below take registers and a channel and are no methods: the type is of the crate that knows nothing of asking.
+
 // By its line while its mask is clear, or by its request bit in block mode.
 fn wants(group: &Group, channel: Channel) -> bool
     ensures { result ≡ wants group.now channel }

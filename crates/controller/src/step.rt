@@ -35,18 +35,9 @@ fn side(group: &Group, asking: u8) -> Side
 fn choose(registers: &Registers) -> Option<Choice>
     ensures { result ≡ choice_of registers.now }
 {
-    let first = mask(
-        asks(registers, 0),
-        asks(registers, 1),
-        asks(registers, 2),
-        asks(registers, 3),
-    );
-    let second = mask(
-        false,
-        asks(registers, 5),
-        asks(registers, 6),
-        asks(registers, 7),
-    );
+    let asks = |c| asks(registers, c);
+    let first = mask(asks(0), asks(1), asks(2), asks(3));
+    let second = mask(false, asks(5), asks(6), asks(7));
     winner(
         side(&registers.first, first),
         side(&registers.second, second),

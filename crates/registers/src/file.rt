@@ -19,7 +19,7 @@ pub struct Registers {
 }
 
 impl Dma {
-    // The group that a channel is of.
+    // The group that a channel is of. Not `From<u8>`: elsewhere a byte with a group is a value, as in `picked`.
     pub(crate) fn of(channel: u8) -> Dma
         ensures { result ≡ dma_of channel }
     {

@@ -99,6 +99,7 @@ impl Group {
     }
 
     // Each channel made anew, from what it was and its slot's bit of a byte.
+    // Four calls, since each has another bit of the byte: a loop would have to shift it and be no plainer.
     fn renew<F: Fn(Channel, bool) -> Channel>(&mut self, bits: u8, f: F)
         requires { F.IsAlwaysCallable f }
         ensures { Renews (F.post f) bits self.old self.new }
@@ -143,6 +144,7 @@ impl Group {
     }
 
     // A flag of each slot and its channel as a number, slot 0's as bit 0.
+    // Four calls: after a `map` of the array by a parameter the proof did not close.
     fn bits<F: Fn(u8, Channel) -> bool>(&self, f: F) -> u8
         requires { F.IsAlwaysCallable f }
         ensures value { Gathers (F.post f) self.now result }

@@ -91,6 +91,7 @@ impl Registers {
         Ok(())
     }
 
+    // Control, group and value stay three parameters, here and below: together they are a `WritePort` taken apart.
     fn write_control(&mut self, control: Control, dma: Dma, value: u8) -> Result<(), Refusal>
         ensures state { self.new ≡ written_at (target.Control control dma) value self.old }
         ensures answer { shown result ≡ refusal_at self.old (target.Control control dma) value }

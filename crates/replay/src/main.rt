@@ -59,7 +59,7 @@ fn print_script(
     print_end(rt, at, None)
 }
 
-/// Prints the notices that the script did not ask for.
+/// Prints the notices that the script did not ask for, at most as many as can wait: so it ends, whatever a machine answers.
 fn print_left(rt: &HostRuntime, machine: &mut Machine, seen: &mut [Seen]) -> io::Result<()> {
     for _ in 0..NOTICES {
         let answer = machine.play(Command::Next);

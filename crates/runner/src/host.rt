@@ -11,7 +11,7 @@ use script::progress::Progress;
 /// How many units wait at each channel.
 const UNITS: u32 = 256;
 
-/// The refusal that ended a run, 0 if it was the script's end, and how many bytes were answered.
+/// The refusal that ended a run, 0 if it was the script's end, and how many bytes were answered: numbers, since C reads them.
 #[repr(C)]
 #[derive(Clone, Copy, PartialEq, Eq, Debug)]
 pub struct Outcome {

@@ -20,8 +20,9 @@ fn print_calls(rt: &HostRuntime, calls: &[Call], answers: &[Answer]) -> io::Resu
 /// Prints some bytes of memory.
 fn print_bytes<M: Memory>(rt: &HostRuntime, memory: &M, from: u32, size: u32) -> io::Result<()> {
     print!(rt; "memory at {from:06X}h:")?;
-    for i in 0..size {
-        match memory.read(from.wrapping_add(i)) {
+    let bytes = (0..size).map(|offset| memory.read(from.wrapping_add(offset)));
+    for byte in bytes {
+        match byte {
             Ok(byte) => print!(rt; " {byte:02X}")?,
             Err(_) => print!(rt; " --")?,
         }
@@ -40,6 +41,7 @@ fn print_units(rt: &HostRuntime, what: &str, tape: &mut Tape<u16>) -> io::Result
     println!(rt; "")
 }
 
+// The shape of the example's board, at addresses of its own: the board has a contract on its addresses, and no parameters.
 /// A map: 4,096 writable bytes at 010000h with a hole in their upper half, and 16 read-only bytes at 020000h.
 fn map<'a>(low: &'a mut [u8], high: &'a mut [u8]) -> Hole<Join<Block<'a>, Block<'a>>> {
     let low = Block::over(low, 0x1_0000, true);
