@@ -22,7 +22,7 @@ const SCRIPT: u64 = 8_192;
 /// How many bytes of memory there are, all zero at first.
 const MEMORY: usize = 32_768;
 
-/// How many bytes of the script a command has.
+/// How many bytes of the script a command has: its writer tells, since a reader does not tell its place.
 fn size(command: Command) -> usize {
     let mut bytes = [0; 13];
     command.write(&mut bytes).unwrap_or(0)
