@@ -27,14 +27,18 @@ or_words h p a i j k =
     let l : a * 2 < 131072 = omega arith in
     rw (e, f, or_shifted (h * 128 + p / 2) 17 (a * 2) l) (omega arith)
 
--- the registers of an address, read off its two high bytes and its bits
-pub at_bytes : (m : Addressing) (x old high low : ℕ) → m ≡ Bytes → high ≡ x / 16777216 % 256 → low ≡ x / 65536 % 256
-    → ◌≡◌ {A = Place} record { address = bit_and x 65535; low = low; high = high } (place_at m x old)
-at_bytes m x old high low e h l = rw (e, h, l, and_mask x 16)
+-- the registers of an address, read off its bits
+pub at_bytes : (m : Addressing) (x old : ℕ) → m ≡ Bytes → x < 4294967296
+    → ◌≡◌ {A = Place} record { address = bit_and x 65535; low = bit_and (x / 65536) 255; high = x / 65536 / 256 } (place_at m x old)
+at_bytes m x old e i =
+    let h : x / 65536 / 256 ≡ x / 16777216 % 256 = omega (arith, shr-shr x 16 8) in
+    rw (e, and_mask x 16, and_mask (x / 65536) 8, h)
 
-pub at_words : (m : Addressing) (x old high low : ℕ) → m ≡ Words → high ≡ x / 16777216 % 256 → low ≡ x / 65536 % 256
-    → ◌≡◌ {A = Place} record { address = bit_and (x / 2) 65535; low = bit_or (bit_and low 254) (bit_and old 1); high = high } (place_at m x old)
-at_words m x old high low e h l =
-    let s : old % 2 < 2 = omega arith in
-    let d : x / 65536 % 256 / 2 % 128 ≡ x / 131072 % 128 = omega (arith, shr-shr x 16 1) in
-    rw (e, h, l, and_mask (x / 2) 16, and_high (x / 65536 % 256) 7 1, and_mask old 1, or_shifted (x / 65536 % 256 / 2 % 128) 1 (old % 2) s, d)
+pub at_words : (m : Addressing) (x old : ℕ) → m ≡ Words → x < 4294967296
+    → ◌≡◌ {A = Place}
+    record { address = bit_and (x / 2) 65535; low = bit_or (bit_and (x / 65536) 254) (bit_and old 1); high = x / 65536 / 256 }
+    (place_at m x old)
+at_words m x old e i =
+    let h : x / 65536 / 256 ≡ x / 16777216 % 256 = omega (arith, shr-shr x 16 8) in
+    let l : old % 2 < 2 = omega arith in
+    rw (e, and_mask (x / 2) 16, and_high (x / 65536) 7 1, and_mask old 1, or_shifted (x / 65536 / 2 % 128) 1 (old % 2) l, shr-shr x 16 1, h)

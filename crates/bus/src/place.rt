@@ -56,16 +56,17 @@ impl Place {
         ensures value { result ≡ place_at addressing address old_low }
         ensures back { address % unit_of addressing ≡ 0 → address_of addressing result ≡ address }
     {
-        let [high, low, ..] = address.to_be_bytes();
+        let pages = address >> 16;
+        let high = (pages >> 8) as u8;
         match addressing {
             Addressing::Bytes => Place {
                 address: (address & 0xffff) as u16,
-                low,
+                low: (pages & 0xff) as u8,
                 high,
             },
             Addressing::Words => Place {
                 address: (address >> 1 & 0xffff) as u16,
-                low: low & 0xfe | old_low & 1,
+                low: (pages & 0xfe) as u8 | old_low & 1,
                 high,
             },
         }
