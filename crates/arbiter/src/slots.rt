@@ -3,6 +3,7 @@ ghost use Rattle.std.specs.Prelude.{◌≡◌, ℕ, ◌<◌, Some};
 ghost use Rattle.arbiter.specs.Slots.{asks_in, first_from, flag_of, mask_of};
 
 // The mask that has bit 0 for a, bit 1 for b, bit 2 for c and bit 3 for d.
+// Four flags and no array: where a caller made one by a `map`, its proof did not close (tried).
 pub fn mask(a: bool, b: bool, c: bool, d: bool) -> u8
     ensures value { result ≡ mask_of a b c d }
     ensures bits { (k : ℕ) → k < 4 → asks_in result k ≡ flag_of a b c d k }

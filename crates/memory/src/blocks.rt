@@ -1,6 +1,6 @@
 // A block of lent bytes as a memory.
-ghost use Rattle.std.specs.Prelude.{◌≡◌, true, false, length, is_ok, IfErr, IfOk, MatchResult};
-ghost use Rattle.memory.specs.Blocks.{block_number, fits_at, kind_of_all, kind_from, byte_from, block_kind, block_byte, block_fixed};
+ghost use Rattle.std.specs.Prelude.{◌≡◌, Some, true, false, length, is_ok, IfErr, IfOk, MatchResult};
+ghost use Rattle.memory.specs.Blocks.{block_number, block_words, fits_at, kind_of_all, kind_from, byte_from, block_kind, block_byte, block_fixed};
 
 use crate::kinds::{Kind, MemoryFault};
 use crate::layer::Memory;
@@ -26,6 +26,7 @@ pub enum BlockFault {
 
 impl BlockFault {
     /// The refusal's number.
+    // An enum's own and no trait's: the cast needs the enum, so a trait would have the same body seven times.
     pub fn number(self) -> u8
         ensures { result ≡ block_number self }
     {
@@ -34,6 +35,8 @@ impl BlockFault {
 }
 
 impl fmt::Display for BlockFault {
+    ghost output = { λ fault. Some (block_words fault) };
+
     fn fmt<W: fmt::Write>(&self, f: &mut fmt::Formatter<W>) -> fmt::Result {
         f.write_str(match self {
             BlockFault::DoesNotFit => "the block is too long, or goes past FFFFFFFFh",

@@ -33,6 +33,7 @@ impl<L, U> Join<L, U> {
     }
 
     /// Whether the first memory has the address; the boundary belongs to the second.
+    // Asked by each of the three calls: the two memories are of two types, so no function can answer which.
     fn is_lower(&self, address: u32) -> bool
         ensures { result ≡ nat_lt address self.now.boundary }
     {

@@ -25,7 +25,7 @@ pub trait Memory {
     fn read(&self, address: u32) -> Result<u8, MemoryFault>
         ensures { result ≡ read_of (kind_at self.now address) (byte_at self.now address) };
 
-    // That the kinds and `fixed` stay stands in each contract that passes a memory on: one equation of a ghost member, which a definition would only rename.
+    // A contract under which a memory may be written says that kinds and `fixed` are as before: each is one equation, which a definition would only rename.
     /// Writes a byte, which changes that byte alone; refused, it changes nothing.
     fn write(&mut self, address: u32, byte: u8) -> Result<(), MemoryFault>
         ensures answer { result ≡ write_of (kind_at self.old address) }

@@ -8,7 +8,7 @@ ghost use Rattle.picture.specs.Marks.{mark_of, blank_mark};
 use tape::{Blank, Tape, TapeFault};
 
 /// What happened, to whom and where.
-// The cause is any byte: what the numbers mean is up to those who note them, so there is no enum of them here.
+// The cause is a byte: an enum of causes would be one more thing to read in an example of an element.
 #[derive(Clone, Copy, PartialEq, Eq, Debug)]
 pub struct Mark {
     pub channel: u8,

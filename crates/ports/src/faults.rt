@@ -16,6 +16,7 @@ pub enum PortFault {
 
 impl PortFault {
     /// The refusal's number.
+    // An enum's own and no trait's: the cast needs the enum, so a trait would have the same body seven times.
     pub fn number(self) -> u8
         ensures { result ≡ port_number self }
     {

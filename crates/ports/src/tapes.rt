@@ -8,7 +8,7 @@ use crate::faults::PortFault;
 
 /// A deck for each channel.
 //
-// Seven fields, since an array of structs that hold a `&mut` gets no proof yet.
+// Seven fields: the check proves no array of structs that hold a `&mut` (tried).
 #[derive(Drop)]
 pub struct TapeBank<'a> {
     deck0: Deck<'a>,
@@ -73,7 +73,7 @@ impl<'a> TapeBank<'a> {
     }
 }
 
-// Asks a channel's deck. A function that answers a `&mut` to one of several fields gets no proof yet, so this is a macro.
+// Asks a channel's deck. A macro: the check proves no function that answers a `&mut` to one of several fields (tried).
 macro_rules! ask_deck {
     ($bank:ident, $channel:ident, $ask:ident($($unit:ident)?)) => {
         match $channel {

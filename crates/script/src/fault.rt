@@ -1,6 +1,6 @@
 // The refusals of a script, and their numbers.
-ghost use Rattle.std.specs.Prelude.{◌≡◌};
-ghost use Rattle.script.specs.Faults.{number_of};
+ghost use Rattle.std.specs.Prelude.{◌≡◌, Some};
+ghost use Rattle.script.specs.Faults.{number_of, fault_words};
 
 use std::error::Error;
 use std::fmt;
@@ -16,6 +16,7 @@ pub enum ScriptFault {
 }
 
 impl ScriptFault {
+    // An enum's own and no trait's: the cast needs the enum, so a trait would have the same body seven times.
     pub fn number(self) -> u8
         ensures { result ≡ number_of self }
     {
@@ -24,6 +25,8 @@ impl ScriptFault {
 }
 
 impl fmt::Display for ScriptFault {
+    ghost output = { λ fault. Some (fault_words fault) };
+
     fn fmt<W: fmt::Write>(&self, f: &mut fmt::Formatter<W>) -> fmt::Result {
         f.write_str(match self {
             ScriptFault::Unknown => "the byte is no command",

@@ -29,7 +29,7 @@ impl<'a> Script<'a> {
         ensures rest { left self.new ≡ rest_of (left self.old) }
         ensures shorter { Shorter result (left self.old) (left self.new) }
     {
-        // Each arm returns by itself: as the match's value it would be proved once for each way to it.
+        // An arm that reads a command returns by itself: as the match's value it would be proved once for each way to it.
         match *self.rest {
             [] => Ok(None),
             [OUT, low, high, value, ref rest @ ..] => {

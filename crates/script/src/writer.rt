@@ -67,7 +67,7 @@ pub fn write_all(commands: &[Command], out: &mut [u8]) -> Progress
     ensures whole { result.refusal ≡ None → fitting (length out.old) (map order_of commands.now) ≡ map order_of commands.now }
     ensures reads_back { ScriptReadsBack (fitting (length out.old) (map order_of commands.now)) }
 {
-    // Summed by hand: a `try_fold` would lose the sum with the refusal.
+    // A `for`, and no `try_fold`: of what a closure writes into `out` a proof knows nothing.
     let mut done = 0;
     for command in commands {
         match command.write(&mut out[done..]) {

@@ -7,7 +7,7 @@ use std::error::Error;
 use std::fmt;
 
 /// So many of the lent cells, from a start on and going round, are in use.
-// A ring over lent cells, not a `VecDeque`: this project takes no memory from a heap.
+// A ring over lent cells, not a `VecDeque`: this crate takes no memory from a heap.
 #[derive(Drop)]
 pub struct Tape<'a, T> {
     cells: &'a mut [T],
@@ -28,6 +28,7 @@ impl TapeFault {
     ghost use Rattle.tape.specs.Tapes.{tape_number};
 
     /// The refusal's number.
+    // An enum's own and no trait's: the cast needs the enum, so a trait would have the same body seven times.
     pub fn number(self) -> u8
         ensures { result ≡ tape_number self }
     {
