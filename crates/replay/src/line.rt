@@ -25,18 +25,18 @@ impl fmt::Display for Order<'_> {
             }
             Command::Step { count } => write!(f, "steps: {count} asked for"),
             Command::Put { address, bytes } => {
-                let [a, b, c, d, e, g, h, i] = *bytes;
-                write!(
-                    f,
-                    "put {a:02X} {b:02X} {c:02X} {d:02X} {e:02X} {g:02X} {h:02X} {i:02X} at {address:08X}h"
-                )
+                f.write_str("put")?;
+                for byte in bytes {
+                    write!(f, " {byte:02X}")?;
+                }
+                write!(f, " at {address:08X}h")
             }
             Command::Next => f.write_str("next notice"),
         }
     }
 }
 
-/// What a refusal adds to a line.
+/// What a refusal adds to a line. The number comes beside the reason: no type has every enum of refusals.
 fn say_refused<W: fmt::Write, R: fmt::Display>(
     f: &mut fmt::Formatter<W>,
     number: u8,

@@ -1,6 +1,4 @@
 // A call and its answer in words.
-//
-// The words are this program's, so the types of other crates get them through types of its own.
 use controller::event::Event;
 use controller::fault::Fault;
 use controller::grant::{BusRefusal, Cycle};
@@ -30,6 +28,7 @@ impl fmt::Display for Said {
     }
 }
 
+// The words are this program's, so another crate's type gets them through a type of its own; so below.
 #[derive(Clone, Copy)]
 struct CallWords(Call);
 
@@ -53,7 +52,7 @@ impl fmt::Display for CallWords {
     }
 }
 
-/// What an access answered: that it was accepted, or the refusal's number.
+/// What an access answered: that it was accepted, or the refusal's number, which is all that this program says of it.
 fn say_done<W: fmt::Write>(f: &mut fmt::Formatter<W>, refusal: Option<u8>) -> fmt::Result {
     match refusal {
         None => f.write_str("accepted"),

@@ -33,6 +33,7 @@ fn print_bytes<M: Memory>(rt: &HostRuntime, memory: &M, from: u32, size: u32) ->
 /// Prints what a tape holds, and empties it.
 fn print_units(rt: &HostRuntime, what: &str, tape: &mut Tape<u16>) -> io::Result<()> {
     print!(rt; "{what}:")?;
+    // Not `while let`: a `for` over what the tape holds ends by itself.
     for _ in 0..tape.len() {
         if let Ok(unit) = tape.pop() {
             print!(rt; " {unit:04X}")?;
@@ -41,9 +42,9 @@ fn print_units(rt: &HostRuntime, what: &str, tape: &mut Tape<u16>) -> io::Result
     println!(rt; "")
 }
 
-// The shape of the example's board, at addresses of its own: the board has a contract on its addresses, and no parameters.
 /// A map: 4,096 writable bytes at 010000h with a hole in their upper half, and 16 read-only bytes at 020000h.
 fn map<'a>(low: &'a mut [u8], high: &'a mut [u8]) -> Hole<Join<Block<'a>, Block<'a>>> {
+    // Not `picture::board`: nothing depends on the crate of examples.
     let low = Block::over(low, 0x1_0000, true);
     let high = Block::over(high, 0x2_0000, false);
     Hole::new(Join::new(low, high, 0x2_0000), 0x1_0800, 0x1_0FFF)
@@ -74,8 +75,8 @@ pub(crate) fn record_and_play(rt: &HostRuntime) -> io::Result<()> {
         no_device(),
         no_device(),
     );
-    let calls = calls::record_and_play();
-    let mut answers = [Answer::Release(Ok(())); 32];
+    let calls = calls::record_and_play(rt.alloc())?;
+    let mut answers = vec![in rt.alloc(); Answer::Release(Ok(())); calls.len()]?;
     let Played { count: _, session } = play(&mut memory, &mut bank, &calls, &mut answers);
     session.end();
     print_calls(rt, &calls, &answers)?;
@@ -103,8 +104,8 @@ pub(crate) fn share_the_bus(rt: &HostRuntime) -> io::Result<()> {
         no_device(),
         no_device(),
     );
-    let calls = calls::share_the_bus();
-    let mut answers = [Answer::Release(Ok(())); 64];
+    let calls = calls::share_the_bus(rt.alloc())?;
+    let mut answers = vec![in rt.alloc(); Answer::Release(Ok(())); calls.len()]?;
     let Played { count: _, session } = play(&mut memory, &mut bank, &calls, &mut answers);
     session.end();
     print_calls(rt, &calls, &answers)?;

@@ -11,7 +11,7 @@ fn channels(bits: u8, dma: Dma) -> Channels {
     Channels { bits, first }
 }
 
-/// Which way units go; a cascade channel has none. Type 3 is refused, so it is in no enum, and the number says it.
+/// Which way units go; a cascade channel has none. By number: a byte that is refused is said too, and no enum has type 3.
 fn transfer(value: u8, service: Service) -> &'static str {
     match value / 4 % 4 {
         _ if service == Service::Cascade => "",
@@ -22,7 +22,7 @@ fn transfer(value: u8, service: Service) -> &'static str {
     }
 }
 
-/// Half of the numbers are refused, so no enum has them.
+/// By number: a byte that is refused is said too, and no enum has 2 and 3.
 fn addressing(value: u8) -> &'static str {
     match value / 4 % 4 {
         0 => "bytes",
@@ -31,18 +31,13 @@ fn addressing(value: u8) -> &'static str {
     }
 }
 
-/// Bit 6 says that the end is selected, bit 7 how.
+/// Bit 6 says that the end is selected, bit 7 how. Here and below bits are read one by one: each has words of its own, and no struct.
 fn selection(value: u8) -> &'static str {
     match (value & 0x40 != 0, value & 0x80 != 0) {
         (true, false) => ", the end by IRQ13",
         (true, true) => ", the end by EOP",
         (false, _) => "",
     }
-}
-
-/// A text if a bit of the value is set.
-fn if_set(value: u8, mask: u8, text: &'static str) -> &'static str {
-    if value & mask != 0 { text } else { "" }
 }
 
 /// One of two texts, by a bit of the value.
@@ -128,10 +123,10 @@ pub(crate) fn say_asked<W: fmt::Write>(
 /// What a list status says.
 fn shown_of_list<W: fmt::Write>(f: &mut fmt::Formatter<W>, value: u8) -> fmt::Result {
     let active = either(value, 0x01, "active", "not active");
-    let current = if_set(value, 0x04, ", current loaded");
-    let reserve = if_set(value, 0x08, ", reserve loaded");
-    let irq13 = if_set(value, 0x20, ", the end by IRQ13");
-    let ended = if_set(value, 0x80, ", EOL fetched");
+    let current = either(value, 0x04, ", current loaded", "");
+    let reserve = either(value, 0x08, ", reserve loaded", "");
+    let irq13 = either(value, 0x20, ", the end by IRQ13", "");
+    let ended = either(value, 0x80, ", EOL fetched", "");
     write!(f, ", {active}{current}{reserve}{irq13}{ended}")
 }
 
