@@ -30,7 +30,7 @@ pub struct Entry {
     pub count: u16,
 }
 
-// Flags, and no Option of a list that runs: what they say stands in the status after the list is over.
+// Flags, and no one enum of states: `active` and `loaded` go at the end of a list, `ended` and `stopped` stay, so it would need a variant for each mix.
 #[derive(Clone, Copy, PartialEq, Eq, Debug, Default)]
 pub struct List {
     pub pointer: u32,

@@ -19,6 +19,7 @@ pub enum Refusal {
 
 impl Refusal {
     // The number that a script's answer shows.
+    // An enum's own and no trait's: the cast needs the enum, so a trait would have the same body seven times.
     pub fn number(self) -> u8
         ensures { result ≡ number_of self }
     {
