@@ -1,5 +1,5 @@
 -- One channel's registers, and what a write makes of them.
-use Rattle.std.specs.Prelude.{ℕ, ◌+◌, ◌*◌, ◌/◌, ◌%◌, Bool, true, false, cond, not, ◌&&◌, ◌||◌, List, [], ◌∷◌, Some, None, Option, ◌==◌, nat_lt, slice_index, slice_set}
+use Rattle.std.specs.Prelude.{◌≡◌, ℕ, ◌+◌, ◌*◌, ◌/◌, ◌%◌, Bool, true, false, cond, not, ◌&&◌, ◌||◌, List, [], ◌∷◌, Some, None, Option, ◌==◌, nat_lt, slice_index, slice_set}
 use Rattle.bus.specs.declared.place.Place.{Place}
 use Rattle.bus.specs.declared.place.Addressing.{Addressing}
 use Rattle.bus.specs.declared.place.Addressing.TheVariants.{Bytes, Words}
@@ -85,6 +85,14 @@ high_paged v x = record x { place = record (x.place) { high = v } }
 -- one byte of the count replaced
 abbrev pub counted : Bool → ℕ → Span → Span
 counted high v x = record x { count = put_byte high v x.count }
+
+-- base and current of the new channel are what f makes of the old ones; all else stays
+pub record Respans (f : Span → Span → Type 0) (old new : Channel) : Type 0 where
+  pub a : Span
+  pub b : Span
+  pub first : f old.base a
+  pub second : f old.current b
+  pub whole : new ≡ record old { base = a; current = b }
 
 -- an address byte goes to base and current; addressing is no longer extended, and both high pages are 0
 abbrev pub with_address : Bool → ℕ → Channel → Channel

@@ -1,6 +1,6 @@
 // One channel's registers, and what a driver's bytes make of them.
 ghost use Rattle.std.specs.Prelude.{◌≡◌};
-ghost use Rattle.registers.specs.Channels.{fresh, rest_span, addressed, low_paged, high_paged, counted, start_refusal, put_byte, byte_of, with_address, with_count, with_low, with_high, with_extended_mode, cleared, with_table_byte, with_list_command, list_refusal, list_begins, unfit, halted};
+ghost use Rattle.registers.specs.Channels.{fresh, rest_span, addressed, low_paged, high_paged, counted, start_refusal, put_byte, byte_of, with_address, with_count, with_low, with_high, with_extended_mode, cleared, with_table_byte, with_list_command, list_refusal, list_begins, unfit, halted, Respans};
 ghost use Rattle.registers.specs.Refusals.{shown};
 
 use crate::list::{List, ListCommand};
@@ -140,15 +140,25 @@ impl Channel {
         }
     }
 
+    // Base and current each made anew from what it was.
+    fn both<F: Fn(Span) -> Span>(self, f: F) -> Channel
+        requires { F.IsAlwaysCallable f }
+        ensures { Respans (F.post f) self result }
+    {
+        Channel {
+            base: f(self.base),
+            current: f(self.current),
+            ..self
+        }
+    }
+
     // An address byte, for base and current; it ends extended addressing.
     pub(crate) fn with_address(self, byte: Half) -> Channel
         ensures { result ≡ with_address byte.high byte.value self }
     {
         Channel {
-            base: self.base.with_address(byte),
-            current: self.current.with_address(byte),
             extended: false,
-            ..self
+            ..self.both(|span| span.with_address(byte))
         }
     }
 
@@ -156,11 +166,7 @@ impl Channel {
     pub(crate) fn with_count(self, byte: Half) -> Channel
         ensures { result ≡ with_count byte.high byte.value self }
     {
-        Channel {
-            base: self.base.with_count(byte),
-            current: self.current.with_count(byte),
-            ..self
-        }
+        self.both(|span| span.with_count(byte))
     }
 
     // The low page, for base and current; it ends extended addressing.
@@ -168,10 +174,8 @@ impl Channel {
         ensures { result ≡ with_low value self }
     {
         Channel {
-            base: self.base.with_low(value),
-            current: self.current.with_low(value),
             extended: false,
-            ..self
+            ..self.both(|span| span.with_low(value))
         }
     }
 
@@ -180,10 +184,8 @@ impl Channel {
         ensures { result ≡ with_high value self }
     {
         Channel {
-            base: self.base.with_high(value),
-            current: self.current.with_high(value),
             extended: true,
-            ..self
+            ..self.both(|span| span.with_high(value))
         }
     }
 
@@ -191,7 +193,7 @@ impl Channel {
     pub(crate) fn with_extended_mode(self, value: u8) -> Channel
         ensures { result ≡ with_extended_mode value self }
     {
-        // Addressing is a type of `bus`, so no From<u8> can stand here; settings 2 and 3 are refused before this.
+        // Not `TryFrom<u8>`: `Addressing` is a type of `bus`, and its error could not come, as settings 2 and 3 are refused before this.
         let addressing = if value / 4 % 4 == 0 {
             Addressing::Bytes
         } else {

@@ -3,7 +3,7 @@ ghost use Rattle.std.specs.Prelude.{◌≡◌};
 ghost use Rattle.std.specs.Borrow.{sem};
 ghost use Rattle.registers.specs.Lending.{LendsGroup};
 ghost use Rattle.registers.specs.Groups.{flipped};
-ghost use Rattle.registers.specs.File.{fresh_file, channel_of, with_channel, at_group_of, group_at, dma_of, programmed, picked, high_byte};
+ghost use Rattle.registers.specs.File.{fresh_file, channel_of, with_channel, at_group_of, group_at, dma_of, programmed, with_service, over, picked, high_byte};
 
 use crate::channel::Channel;
 use crate::group::Group;
@@ -19,8 +19,9 @@ pub struct Registers {
 }
 
 impl Dma {
-    // The group that a channel is of. Not `From<u8>`: elsewhere a byte with a group is a value, as in `picked`.
-    pub(crate) fn of(channel: u8) -> Dma
+    // The group that a channel is of.
+    // Not `From<u8>`: the byte is a channel's number and no code of a group, which `Dma::from(5)` would not tell.
+    pub fn of(channel: u8) -> Dma
         ensures { result ≡ dma_of channel }
     {
         if channel < 4 { Dma::One } else { Dma::Two }
@@ -50,7 +51,7 @@ impl Registers {
     }
 
     // A group's registers.
-    pub(crate) fn group(&self, dma: Dma) -> &Group
+    pub fn group(&self, dma: Dma) -> &Group
         ensures { result.now ≡ group_at self.now dma }
     {
         match dma {
@@ -89,6 +90,13 @@ impl Registers {
         ensures { self.new ≡ programmed c channel self.old }
     {
         self.put(c, channel);
+        self.end_service(c);
+    }
+
+    // A channel's service is over; another's goes on.
+    pub fn end_service(&mut self, c: u8)
+        ensures { self.new ≡ with_service (over c self.old.service) self.old }
+    {
         if self.service == Some(c) {
             self.service = None;
         }

@@ -99,7 +99,7 @@ impl Group {
     }
 
     // Each channel made anew, from what it was and its slot's bit of a byte.
-    // Four calls, since each has another bit of the byte: a loop would have to shift it and be no plainer.
+    // Four calls: with `array::from_fn` the closure needs a contract and a table of weights, and the proof did not close (tried).
     fn renew<F: Fn(Channel, bool) -> Channel>(&mut self, bits: u8, f: F)
         requires { F.IsAlwaysCallable f }
         ensures { Renews (F.post f) bits self.old self.new }

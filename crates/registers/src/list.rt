@@ -1,6 +1,7 @@
 // The list record of a channel: where its table stands and what is loaded of it.
-ghost use Rattle.std.specs.Prelude.{◌≡◌};
+ghost use Rattle.std.specs.Prelude.{◌≡◌, Some};
 ghost use Rattle.registers.specs.Modes.{command_of};
+ghost use Rattle.registers.specs.Names.{signal_words, command_words};
 ghost use Rattle.registers.specs.Channels.{rest_list, commanded, started, list_status, selected, table_byte};
 
 use std::fmt;
@@ -29,7 +30,7 @@ pub struct Entry {
     pub count: u16,
 }
 
-// Flags, and no Option of a list that runs: what they say stands in the status after the list is over.
+// Flags, and no one enum of states: `active` and `loaded` go at the end of a list, `ended` and `stopped` stay, so it would need a variant for each mix.
 #[derive(Clone, Copy, PartialEq, Eq, Debug, Default)]
 pub struct List {
     pub pointer: u32,
@@ -129,6 +130,8 @@ impl From<u8> for ListCommand {
 }
 
 impl fmt::Display for Signal {
+    ghost output = { λ signal. Some (signal_words signal) };
+
     fn fmt<W: fmt::Write>(&self, f: &mut fmt::Formatter<W>) -> fmt::Result {
         f.write_str(match self {
             Signal::Eop => "EOP",
@@ -138,6 +141,8 @@ impl fmt::Display for Signal {
 }
 
 impl fmt::Display for ListCommand {
+    ghost output = { λ command. Some (command_words command) };
+
     fn fmt<W: fmt::Write>(&self, f: &mut fmt::Formatter<W>) -> fmt::Result {
         f.write_str(match self {
             ListCommand::Nothing => "nothing",

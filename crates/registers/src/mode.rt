@@ -1,6 +1,7 @@
 // The mode register of a channel, taken apart.
-ghost use Rattle.std.specs.Prelude.{◌≡◌};
+ghost use Rattle.std.specs.Prelude.{◌≡◌, Some};
 ghost use Rattle.registers.specs.Modes.{mode_of, service_of, transfer_of};
+ghost use Rattle.registers.specs.Names.{service_words};
 
 use std::fmt;
 
@@ -72,6 +73,8 @@ impl From<u8> for Transfer {
 }
 
 impl fmt::Display for Service {
+    ghost output = { λ service. Some (service_words service) };
+
     fn fmt<W: fmt::Write>(&self, f: &mut fmt::Formatter<W>) -> fmt::Result {
         f.write_str(match self {
             Service::Demand => "demand",

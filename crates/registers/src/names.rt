@@ -1,8 +1,13 @@
 // The names of ports and of what they reach, as they are printed.
+ghost use Rattle.std.specs.Prelude.{Some};
+ghost use Rattle.registers.specs.Names.{dma_words, field_words, control_words, write_words, read_words};
+
 use crate::ports::{Control, Dma, Field, ReadPort, WritePort};
 use std::fmt;
 
 impl fmt::Display for Dma {
+    ghost output = { λ dma. Some (dma_words dma) };
+
     fn fmt<W: fmt::Write>(&self, f: &mut fmt::Formatter<W>) -> fmt::Result {
         f.write_str(match self {
             Dma::One => "DMA1",
@@ -12,6 +17,8 @@ impl fmt::Display for Dma {
 }
 
 impl fmt::Display for Field {
+    ghost output = { λ field. Some (field_words field) };
+
     fn fmt<W: fmt::Write>(&self, f: &mut fmt::Formatter<W>) -> fmt::Result {
         match self {
             Field::Address => f.write_str("address"),
@@ -24,6 +31,8 @@ impl fmt::Display for Field {
 }
 
 impl fmt::Display for Control {
+    ghost output = { λ control. Some (control_words control) };
+
     fn fmt<W: fmt::Write>(&self, f: &mut fmt::Formatter<W>) -> fmt::Result {
         f.write_str(match self {
             Control::Command => "command",
@@ -40,6 +49,8 @@ impl fmt::Display for Control {
 }
 
 impl fmt::Display for WritePort {
+    ghost output = { λ port. Some (write_words port) };
+
     fn fmt<W: fmt::Write>(&self, f: &mut fmt::Formatter<W>) -> fmt::Result {
         match self {
             WritePort::Field(field, channel) => write!(f, "channel {channel} {field}"),
@@ -50,6 +61,8 @@ impl fmt::Display for WritePort {
 }
 
 impl fmt::Display for ReadPort {
+    ghost output = { λ port. Some (read_words port) };
+
     fn fmt<W: fmt::Write>(&self, f: &mut fmt::Formatter<W>) -> fmt::Result {
         match self {
             ReadPort::Field(field, channel) => write!(f, "channel {channel} {field}"),

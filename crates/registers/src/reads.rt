@@ -33,6 +33,7 @@ impl Registers {
         }
     }
 
+    // Field and channel stay two parameters: together they are a `ReadPort` taken apart.
     fn field_value(&self, field: Field, c: u8) -> u8
         ensures { result ≡ field_value self.now field c }
     {

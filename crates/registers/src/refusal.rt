@@ -1,6 +1,6 @@
 // Why a driver's access is refused.
-ghost use Rattle.std.specs.Prelude.{◌≡◌};
-ghost use Rattle.registers.specs.Refusals.{number_of};
+ghost use Rattle.std.specs.Prelude.{◌≡◌, Some};
+ghost use Rattle.registers.specs.Refusals.{number_of, refusal_words};
 
 use std::error::Error;
 use std::fmt;
@@ -19,6 +19,7 @@ pub enum Refusal {
 
 impl Refusal {
     // The number that a script's answer shows.
+    // An enum's own and no trait's: the cast needs the enum, so a trait would have the same body seven times.
     pub fn number(self) -> u8
         ensures { result ≡ number_of self }
     {
@@ -27,6 +28,8 @@ impl Refusal {
 }
 
 impl fmt::Display for Refusal {
+    ghost output = { λ refusal. Some (refusal_words refusal) };
+
     fn fmt<W: fmt::Write>(&self, f: &mut fmt::Formatter<W>) -> fmt::Result {
         f.write_str(match self {
             Refusal::NoSuchPort => "there is no such port in that direction",

@@ -43,6 +43,7 @@ impl Registers {
         Ok(())
     }
 
+    // Field, channel and value stay three parameters, here and below: together they are a `WritePort` taken apart, with its value.
     fn write_field(&mut self, field: Field, c: u8, value: u8) -> Result<(), Refusal>
         ensures state { self.new ≡ written_at (target.Field field c) value self.old }
         ensures answer { shown result ≡ refusal_at self.old (target.Field field c) value }
@@ -91,7 +92,7 @@ impl Registers {
         Ok(())
     }
 
-    // Control, group and value stay three parameters, here and below: together they are a `WritePort` taken apart.
+    // So do control, group and value: a `WritePort` and its value again; `c` below is the channel that group and value pick.
     fn write_control(&mut self, control: Control, dma: Dma, value: u8) -> Result<(), Refusal>
         ensures state { self.new ≡ written_at (target.Control control dma) value self.old }
         ensures answer { shown result ≡ refusal_at self.old (target.Control control dma) value }
