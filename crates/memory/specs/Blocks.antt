@@ -1,5 +1,5 @@
 -- What a block of lent bytes is as a memory.
-use Rattle.std.specs.Prelude.{ℕ, zero, suc, ◌+◌, ◌-◌, Bool, cond, ◌&&◌, List, [], ◌∷◌, length, nat_le, nat_lt, slice_index}
+use Rattle.std.specs.Prelude.{ℕ, zero, suc, ◌+◌, ◌-◌, Bool, cond, ◌&&◌, List, [], ◌∷◌, length, nat_le, nat_lt, slice_index, codes}
 use Rattle.memory.specs.declared.kinds.Kind.{Kind}
 use Rattle.memory.specs.declared.kinds.Kind.TheVariants.{Absent, ReadOnly, Writable}
 use Rattle.memory.specs.declared.blocks.Block.{Block}
@@ -9,6 +9,10 @@ use Rattle.memory.specs.declared.blocks.BlockFault.TheVariants.{DoesNotFit}
 -- 71: the block is too long, or goes past FFFFFFFFh
 abbrev pub block_number : BlockFault → ℕ
 block_number DoesNotFit = 71
+
+-- what its refusal prints
+abbrev pub block_words : BlockFault → List ℕ
+block_words DoesNotFit = codes "the block is too long, or goes past FFFFFFFFh"
 
 -- n bytes fit from a base on: they are at most 16,777,216, and the last is at FFFFFFFFh or below
 abbrev pub fits_at : ℕ → ℕ → Bool

@@ -1,5 +1,5 @@
 -- The numbers of a memory's refusals.
-use Rattle.std.specs.Prelude.{ℕ}
+use Rattle.std.specs.Prelude.{ℕ, List, codes}
 use Rattle.memory.specs.declared.kinds.MemoryFault.{MemoryFault}
 use Rattle.memory.specs.declared.kinds.MemoryFault.TheVariants.{Absent, ReadOnly}
 
@@ -7,3 +7,8 @@ use Rattle.memory.specs.declared.kinds.MemoryFault.TheVariants.{Absent, ReadOnly
 abbrev pub memory_number : MemoryFault → ℕ
 memory_number Absent = 21
 memory_number ReadOnly = 22
+
+-- what each refusal prints
+abbrev pub memory_words : MemoryFault → List ℕ
+memory_words Absent = codes "no memory there"
+memory_words ReadOnly = codes "the memory there is read-only"

@@ -1,6 +1,6 @@
 // A block of lent bytes as a memory.
-ghost use Rattle.std.specs.Prelude.{◌≡◌, true, false, length, is_ok, IfErr, IfOk, MatchResult};
-ghost use Rattle.memory.specs.Blocks.{block_number, fits_at, kind_of_all, kind_from, byte_from, block_kind, block_byte, block_fixed};
+ghost use Rattle.std.specs.Prelude.{◌≡◌, true, false, length, is_ok, IfErr, IfOk, MatchResult, Some};
+ghost use Rattle.memory.specs.Blocks.{block_number, block_words, fits_at, kind_of_all, kind_from, byte_from, block_kind, block_byte, block_fixed};
 
 use crate::kinds::{Kind, MemoryFault};
 use crate::layer::Memory;
@@ -34,6 +34,8 @@ impl BlockFault {
 }
 
 impl fmt::Display for BlockFault {
+    ghost output = { λ fault. Some (block_words fault) };
+
     fn fmt<W: fmt::Write>(&self, f: &mut fmt::Formatter<W>) -> fmt::Result {
         f.write_str(match self {
             BlockFault::DoesNotFit => "the block is too long, or goes past FFFFFFFFh",

@@ -1,7 +1,7 @@
 // The kinds of an address, and how a memory refuses.
-ghost use Rattle.std.specs.Prelude.{◌≡◌};
+ghost use Rattle.std.specs.Prelude.{◌≡◌, Some};
 ghost use Rattle.memory.specs.Bytes.{write_of};
-ghost use Rattle.memory.specs.Faults.{memory_number};
+ghost use Rattle.memory.specs.Faults.{memory_number, memory_words};
 
 use std::error::Error;
 use std::fmt;
@@ -44,6 +44,8 @@ impl MemoryFault {
 }
 
 impl fmt::Display for MemoryFault {
+    ghost output = { λ fault. Some (memory_words fault) };
+
     fn fmt<W: fmt::Write>(&self, f: &mut fmt::Formatter<W>) -> fmt::Result {
         f.write_str(match self {
             MemoryFault::Absent => "no memory there",
