@@ -18,6 +18,7 @@ use tape::Blank;
 /// How many notices can wait.
 pub const NOTICES: usize = 64;
 
+// Memory and bank are the caller's, lent apart; `stays` is one equation of a ghost member, which a definition would only rename.
 impl Desk<'_> {
     /// Plays a script up to its end or the first command that is refused, and counts the bytes of its answers in `done`.
     fn play_script<M: Memory, B: PortBank>(
