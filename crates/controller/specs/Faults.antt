@@ -1,10 +1,10 @@
--- What a step cannot do: the numbers and layers of its faults.
-use Rattle.std.specs.Prelude.{ℕ, cond, Ok, Err, Result, ◌==◌}
+-- What a step cannot do: the numbers, layers and words of its faults.
+use Rattle.std.specs.Prelude.{ℕ, cond, List, codes, Ok, Err, Result, ◌==◌}
 use Rattle.memory.specs.declared.kinds.MemoryFault.TheVariants as memory
-use Rattle.memory.specs.Faults.{memory_number}
+use Rattle.memory.specs.Faults.{memory_number, memory_words}
 use Rattle.ports.specs.declared.faults.PortFault.{PortFault}
 use Rattle.ports.specs.declared.faults.PortFault.TheVariants as port
-use Rattle.ports.specs.Faults.{port_number}
+use Rattle.ports.specs.Faults.{port_number, port_words}
 use Rattle.controller.specs.declared.fault.TableFault.{TableFault}
 use Rattle.controller.specs.declared.fault.TableFault.TheVariants.{EntryAbsent, TooManyEntries}
 use Rattle.controller.specs.declared.fault.Cause.{Cause}
@@ -18,12 +18,24 @@ abbrev pub table_number : TableFault → ℕ
 table_number EntryAbsent = 41
 table_number TooManyEntries = 42
 
+-- and its words
+abbrev pub table_words : TableFault → List ℕ
+table_words EntryAbsent = codes "no memory at a byte of the list entry"
+table_words TooManyEntries = codes "the list has more than 4,096 entries"
+
 -- each cause has its number: that of the refusal, and 34 for a unit that is too wide
 abbrev pub cause_number : Cause → ℕ
 cause_number (Memory e) = memory_number e
 cause_number (Port e) = port_number e
 cause_number TooWide = 34
 cause_number (Table e) = table_number e
+
+-- and its words: those of the refusal, and its own for a unit that is too wide
+abbrev pub cause_words : Cause → List ℕ
+cause_words (Memory e) = memory_words e
+cause_words (Port e) = port_words e
+cause_words TooWide = codes "the device's unit is above 255, in a transfer of bytes"
+cause_words (Table e) = table_words e
 
 -- the cause with a number
 abbrev pub cause_of : ℕ → Cause

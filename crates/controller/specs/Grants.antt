@@ -1,9 +1,9 @@
 -- Bus master grants: the bus taken, used for single bytes, and released.
-use Rattle.std.specs.Prelude.{ℕ, Bool, false, cond, Ok, Err, Result, ◌==◌}
+use Rattle.std.specs.Prelude.{ℕ, Bool, false, cond, List, codes, Ok, Err, Result, ◌==◌}
 use Rattle.memory.specs.declared.kinds.Kind.{Kind}
 use Rattle.memory.specs.declared.kinds.Kind.TheVariants.{Absent, ReadOnly, Writable}
 use Rattle.memory.specs.Bytes.{written}
-use Rattle.memory.specs.Faults.{memory_number}
+use Rattle.memory.specs.Faults.{memory_number, memory_words}
 use Rattle.registers.specs.File.{over, with_service}
 use Rattle.controller.specs.declared.controller.Bus.{Bus}
 use Rattle.controller.specs.declared.controller.Bus.TheVariants.{Home, Out, Taken}
@@ -20,6 +20,12 @@ abbrev pub bus_number : BusRefusal → ℕ
 bus_number bus.NotOffered = 11
 bus_number bus.NotGranted = 12
 bus_number (bus.Memory e) = memory_number e
+
+-- and its words: those of the memory where it is the memory that refuses
+abbrev pub bus_words : BusRefusal → List ℕ
+bus_words bus.NotOffered = codes "the bus is not out, or is taken already"
+bus_words bus.NotGranted = codes "the bus is not granted"
+bus_words (bus.Memory e) = memory_words e
 
 -- the number that an answer shows: 0 where the call is accepted
 abbrev pub shown_bus : {X : Type 0} → Result X BusRefusal → ℕ

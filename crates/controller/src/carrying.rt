@@ -12,6 +12,9 @@ use memory::{Kind, Memory, MemoryFault};
 use ports::PortBank;
 use registers::mode::Transfer;
 
+// Memory, bank and target are parameters apart: the first two are the caller's, lent apart, and the target is a value of this crate.
+// `lenders` is one equation of a ghost member of the caller's memory, which a definition would only rename.
+
 // The first byte of a unit that is of a kind.
 fn first_of<M: Memory>(memory: &M, kind: Kind, target: Target) -> Option<u32>
     ensures { result ≡ first_of_kind (is_of_kind kind) (M.kind_at memory.now) target.addressing target.address }

@@ -1,6 +1,6 @@
 // What a step cannot do, and where it met it.
-ghost use Rattle.std.specs.Prelude.{◌≡◌};
-ghost use Rattle.controller.specs.Faults.{table_number, cause_number, layer_of};
+ghost use Rattle.std.specs.Prelude.{◌≡◌, Some};
+ghost use Rattle.controller.specs.Faults.{table_number, table_words, cause_number, cause_words, layer_of};
 ghost use Rattle.controller.specs.declared.fault.Cause.TheVariants.{Memory, Port, Table};
 
 use memory::MemoryFault;
@@ -41,6 +41,7 @@ pub struct Fault {
 
 impl TableFault {
     // The refusal's number.
+    // An enum's own and no trait's: the cast needs the enum, so a trait would have the same body seven times.
     pub fn number(self) -> u8
         ensures { result ≡ table_number self }
     {
@@ -98,6 +99,8 @@ impl From<TableFault> for Cause {
 }
 
 impl fmt::Display for TableFault {
+    ghost output = { λ fault. Some (table_words fault) };
+
     fn fmt<W: fmt::Write>(&self, f: &mut fmt::Formatter<W>) -> fmt::Result {
         f.write_str(match self {
             TableFault::EntryAbsent => "no memory at a byte of the list entry",
@@ -107,6 +110,8 @@ impl fmt::Display for TableFault {
 }
 
 impl fmt::Display for Cause {
+    ghost output = { λ cause. Some (cause_words cause) };
+
     fn fmt<W: fmt::Write>(&self, f: &mut fmt::Formatter<W>) -> fmt::Result {
         match self {
             Cause::Memory(fault) => write!(f, "{fault}"),

@@ -1,9 +1,9 @@
 // Grants of the bus to a bus master on a cascade channel.
-ghost use Rattle.std.specs.Prelude.{◌≡◌, IfOk, IfErr};
+ghost use Rattle.std.specs.Prelude.{◌≡◌, IfOk, IfErr, Some};
 ghost use Rattle.controller.specs.declared.grant.BusRefusal.TheVariants.{Memory};
 ghost use Rattle.controller.specs.Outside.{Outside, with_memory};
 ghost use Rattle.controller.specs.Steps.{Becomes, state_of, with_bus};
-ghost use Rattle.controller.specs.Grants.{bus_number, shown_bus, shown_release, byte_in, take_number, took_bus, out_to, holds, cycle_number, cycle_value, after_cycle, release_number, released};
+ghost use Rattle.controller.specs.Grants.{bus_number, bus_words, shown_bus, shown_release, byte_in, take_number, took_bus, out_to, holds, cycle_number, cycle_value, after_cycle, release_number, released};
 
 use crate::controller::{Bus, Controller};
 use memory::{Memory, MemoryFault};
@@ -50,6 +50,8 @@ impl BusRefusal {
 }
 
 impl fmt::Display for BusRefusal {
+    ghost output = { λ refusal. Some (bus_words refusal) };
+
     fn fmt<W: fmt::Write>(&self, f: &mut fmt::Formatter<W>) -> fmt::Result {
         match self {
             BusRefusal::NotOffered => f.write_str("the bus is not out, or is taken already"),
@@ -94,6 +96,7 @@ impl Controller {
     }
 
     // One byte read or written under a grant.
+    // `lenders` is one equation of a ghost member of the caller's memory, which a definition would only rename.
     pub fn cycle<M: Memory>(
         &self,
         grant: &Grant,

@@ -6,6 +6,7 @@ ghost use Rattle.controller.specs.Steps.{Becomes};
 ghost use Rattle.controller.specs.Inspecting.{inspect_number, seen_in, inspected};
 
 use crate::controller::Controller;
+use ports::is_channel;
 use registers::channel::Span;
 use registers::group::BytePointer;
 use registers::refusal::Refusal;
@@ -71,10 +72,11 @@ impl Controller {
         ensures answer { shown result ≡ inspect_number c }
         ensures value { seen_in result ≡ inspected self.old.registers c }
     {
-        if c > 7 || c == 4 {
+        if !is_channel(c) {
             return Err(Refusal::NoSuchChannel);
         }
         let span = self.registers.channel(c).current;
+        // Two branches: through one joined `&mut` to the pointer the proof did not close (tried).
         if c < 4 {
             Ok(look(&mut self.registers.first.pointer, span))
         } else {

@@ -44,8 +44,9 @@ fn choose(registers: &Registers) -> Option<Choice>
     )
 }
 
-// Memory and bank stay two parameters: a caller lends them apart, and a fetch and a cycle take the memory alone.
-// `lenders` is a clause of each function: the memory is the caller's, so no type of this crate can hold the fact.
+// Memory and bank are two parameters: a caller lends them apart, and a fetch and a cycle take the memory alone.
+// `lenders` is a clause where the memory may be written: it is the caller's, so no type of this crate can hold the fact.
+// Channel and memory travel together too: the one is a number, the other lent, and no rule joins them.
 impl Controller {
     // A transfer of a channel's unit; a fault leaves everything.
     fn transfer<M: Memory, B: PortBank>(

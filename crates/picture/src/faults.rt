@@ -1,8 +1,8 @@
 // How a patch is refused.
 //
 // An error that keeps the error of the layer below: `From` lets `?` pass that one on, and `from_gives` tells a proof which it was.
-ghost use Rattle.std.specs.Prelude.{◌≡◌};
-ghost use Rattle.picture.specs.Faults.{patch_number};
+ghost use Rattle.std.specs.Prelude.{◌≡◌, Some};
+ghost use Rattle.picture.specs.Faults.{patch_number, patch_words};
 ghost use Rattle.picture.specs.declared.faults.PatchFault.TheVariants.{Block, Memory};
 
 use memory::{BlockFault, MemoryFault};
@@ -29,6 +29,8 @@ impl PatchFault {
 }
 
 impl fmt::Display for PatchFault {
+    ghost output = { λ fault. Some (patch_words fault) };
+
     fn fmt<W: fmt::Write>(&self, f: &mut fmt::Formatter<W>) -> fmt::Result {
         match self {
             PatchFault::Block(block) => block.fmt(f),

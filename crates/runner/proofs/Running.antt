@@ -1,17 +1,28 @@
 -- A script played command by command.
-use Rattle.std.proofs.Common.{◌≡◌, ℕ, ◌+◌, ◌-◌, ◌<◌, ◌≤◌, List, [], ◌∷◌, ◌++◌, length, take, drop, Some, None, Ok, Err, sym, refl, ap, ◌∙◌, arith}
+use Rattle.std.proofs.Common.{◌≡◌, ℕ, ◌+◌, ◌-◌, ◌<◌, ◌≤◌, List, [], ◌∷◌, ◌++◌, length, take, drop, Some, None, Ok, Err, Result, sym, refl, ap, ◌∙◌, subst, arith}
 use borrow.Rule.Slice.PartMut.{put_mid}
 use Rattle.std.proofs.lemmas.List.{append-nil, append_assoc, length-append, length-take-le, length-drop, take_rest, take_at, drop_at, drop_all, drop-drop, take-append-drop}
 use Rattle.std.proofs.lemmas.Bool.{cond-true, cond-false, lt-ltb, le-ltb}
 use Rattle.std.proofs.lemmas.Bool.Decides.{nat_tests}
 use Rattle.controller.specs.Outside.{Does}
-use Rattle.script.specs.Commands.{Order}
-use Rattle.script.specs.Reads.{read_of, rest_of, read_into}
+use Rattle.script.specs.declared.command.Command.{Command}
+use Rattle.script.specs.declared.fault.ScriptFault.{ScriptFault}
+use Rattle.script.specs.Commands.{Order, order_of}
+use Rattle.script.specs.Faults.{number_of}
+use Rattle.script.specs.Reads.{read_of, rest_of, read_into, Comes}
 use Rattle.script.specs.Writes.{size_in}
 use Rattle.script.proofs.Rows.{behind, Going, going_more, going_end, going_refused}
 use Rattle.runner.specs.Answers.{answer_bytes}
 use Rattle.runner.specs.Plays.{Run, played}
 use Rattle.runner.specs.Runs.{Ran, turn_of, ended, answered, play_all, play_reading, run_of, Answered}
+
+-- what comes of a script, where it is a command and where it is a refusal
+module _ (s t : List ℕ) {x : Result Command ScriptFault} (comes : Comes (Some x) s t) where
+  pub comes_command : {command : Command} → x ≡ Ok command → (Ok (Some (order_of command)) ≡ read_of s) × (t ≡ rest_of s) × (length t < length s)
+  comes_command is = subst (λ y. Comes (Some y) s t) is comes
+
+  pub comes_refused : {fault : ScriptFault} → x ≡ Err fault → (Err (number_of fault) ≡ read_of s) × (t ≡ [])
+  comes_refused is = subst (λ y. Comes (Some y) s t) is comes
 
 -- the end of a row, and a command with and without place for its answer
 play_none : (number n : ℕ) (r : Run) → play_all [] number n r ≡ ended number r

@@ -18,8 +18,10 @@ use tape::Blank;
 /// How many notices can wait.
 pub const NOTICES: usize = 64;
 
+// Memory and bank are the caller's, lent apart; `stays` is one equation of a ghost member, which a definition would only rename.
 impl Desk<'_> {
     /// Plays a script up to its end or the first command that is refused, and counts the bytes of its answers in `done`.
+    // `done` is the caller's, since the sum outlives a refusal.
     fn play_script<M: Memory, B: PortBank>(
         &mut self,
         script: &[u8],
@@ -32,10 +34,9 @@ impl Desk<'_> {
         ensures world { outside_of M.Memory B.PortBank memory.new bank.new ≡ (run_of script.now (length output.old) (run_at self.old (outside_of M.Memory B.PortBank memory.old bank.old))).run.state.world }
         ensures stays { M.fixed memory.new ≡ M.fixed memory.old }
     {
-        let mut reader = Script::new(script);
         *done = 0;
-        while let Some(command) = reader.next()? {
-            *done += self.answer(command, memory, bank, &mut output[*done..])?;
+        for command in Script::new(script) {
+            *done += self.answer(command?, memory, bank, &mut output[*done..])?;
         }
         Ok(())
     }

@@ -16,6 +16,7 @@ use controller::fault::Fault;
 use memory::Memory;
 use ports::PortBank;
 
+// Memory and bank are the caller's, lent apart; `stays` is one equation of a ghost member, which a definition would only rename.
 impl Desk<'_> {
     /// What a step gives notice of comes last.
     fn note(&mut self, outcome: Result<Event, Fault>)

@@ -18,6 +18,7 @@ pub struct Played {
 }
 
 // Makes a controller and performs the calls one after another, as many as there is room for answers.
+// `lenders` is one equation of a ghost member of the caller's memory, which a definition would only rename.
 pub fn play<M: Memory, B: PortBank>(
     memory: &mut M,
     bank: &mut B,
@@ -33,7 +34,7 @@ pub fn play<M: Memory, B: PortBank>(
 {
     let mut session = Session::new();
     let count = calls.len().min(answers.len());
-    // The index of the answers stays: after a zip over `answers.iter_mut()` a proof knows none of them (tried).
+    // The answers are indexed: after a zip over `answers.iter_mut()` a proof knows none of them (tried).
     for (i, call) in calls[..count].iter().enumerate() {
         answers[i] = session.perform(memory, bank, *call);
     }

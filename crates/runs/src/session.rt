@@ -31,6 +31,7 @@ fn give_back(controller: &mut Controller, grant: Option<Grant>) -> Result<(), Bu
     Ok(())
 }
 
+// `lenders` is one equation of a ghost member of the caller's memory, which a definition would only rename.
 impl Session {
     // A new controller, whose bus nobody holds.
     pub(crate) fn new() -> Session
