@@ -7,6 +7,7 @@ use registers::file::Registers;
 use registers::group::Group;
 use registers::list::List;
 use registers::mode::Service;
+use registers::ports::Dma;
 
 // The functions below take registers and a channel and are no methods: the type is of the crate that knows nothing of asking.
 
@@ -35,10 +36,9 @@ fn first_open(registers: &Registers) -> bool
 fn allowed(registers: &Registers, c: u8) -> bool
     ensures { result ≡ allowed registers.now c }
 {
-    if c < 4 {
-        first_open(registers)
-    } else {
-        second_open(registers)
+    match Dma::of(c) {
+        Dma::One => first_open(registers),
+        Dma::Two => second_open(registers),
     }
 }
 
@@ -46,12 +46,7 @@ fn allowed(registers: &Registers, c: u8) -> bool
 pub fn asks(registers: &Registers, c: u8) -> bool
     ensures { result ≡ asks registers.now c }
 {
-    let group = if c < 4 {
-        &registers.first
-    } else {
-        &registers.second
-    };
-    allowed(registers, c) && wants(group, registers.channel(c))
+    allowed(registers, c) && wants(registers.group(Dma::of(c)), registers.channel(c))
 }
 
 // Whether the service of a channel goes on.

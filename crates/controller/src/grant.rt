@@ -131,9 +131,7 @@ impl Controller {
         }
         let Grant { channel } = grant;
         self.bus = Bus::Home;
-        if self.registers.service == Some(channel) {
-            self.registers.service = None;
-        }
+        self.registers.end_service(channel);
         Ok(())
     }
 }

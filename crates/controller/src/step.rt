@@ -35,6 +35,7 @@ fn side(group: &Group, asking: u8) -> Side
 fn choose(registers: &Registers) -> Option<Choice>
     ensures { result ≡ choice_of registers.now }
 {
+    // Four calls, as `mask` takes them.
     let asks = |c| asks(registers, c);
     let first = mask(asks(0), asks(1), asks(2), asks(3));
     let second = mask(false, asks(5), asks(6), asks(7));

@@ -114,6 +114,7 @@ impl Registers {
         }
     }
 
+    // By number, here and below: no enum has the settings that are refused.
     fn refuses_mode(&self, c: u8, value: u8) -> Result<(), Refusal>
         ensures { shown result ≡ mode_refusal self.now c value }
     {

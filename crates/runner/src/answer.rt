@@ -38,6 +38,7 @@ pub(crate) fn answer_size(command: Command) -> usize
 
 impl Answer {
     /// Writes the whole answer at the start of `out` and says how long it is, or writes nothing.
+    // The first byte is the command's plus 80h, as docs/scripts.md lists them.
     pub(crate) fn write(self, out: &mut [u8]) -> Result<usize, ScriptFault>
         ensures answer { numbered result ≡ size_in out.old (answer_bytes (told_of self)) }
         ensures block { out.new ≡ block_after out.old (answer_bytes (told_of self)) }
