@@ -1,11 +1,13 @@
 -- Notices: what a step has to tell besides its answer.
-use Rattle.std.specs.Prelude.{ℕ, Bool, true, false, Some, None, Ok, Err, Option, Result}
+use Rattle.std.specs.Prelude.{ℕ, ◌^◌, ◌-◌, ◌++◌, Bool, true, false, List, [], codes, Some, None, Ok, Err, Option, Result}
+use Rattle.std.specs.Fmt.{decimal, digits, padded_integral, format_spec}
 use Rattle.registers.specs.declared.list.Signal.{Signal}
 use Rattle.registers.specs.declared.list.Signal.TheVariants.{Eop, Irq13}
 use Rattle.controller.specs.declared.event.Event.{Event}
 use Rattle.controller.specs.declared.event.Event.TheVariants.{Idle, Away, Lent, Fetched, Moved}
 use Rattle.controller.specs.declared.fault.Fault.{Fault}
-use Rattle.controller.specs.Faults.{cause_number}
+use Rattle.registers.specs.Names.{signal_words}
+use Rattle.controller.specs.Faults.{cause_number, cause_words}
 use Rattle.runner.specs.declared.notice.Notice.{Notice}
 use Rattle.runner.specs.declared.notice.Notice.TheVariants as notice
 
@@ -36,6 +38,16 @@ signal_cause Irq13 = 102
 abbrev pub numbers_of : Notice → NoticeNumbers
 numbers_of (notice.Signal c s) = numbers_at c (signal_cause s) 0
 numbers_of (notice.Fault f) = numbers_at f.channel (cause_number f.cause) f.address
+
+-- an address in eight hexadecimal digits
+abbrev pub address_words : ℕ → List ℕ
+address_words a = padded_integral (format_spec 32 0 4 8 (2 ^ 64 - 1)) false [] (digits 16 true a)
+
+-- a notice in words
+abbrev pub notice_words : Notice → List ℕ
+notice_words (notice.Signal c s) = codes "channel " ++ (decimal c ++ (codes " signalled " ++ signal_words s))
+notice_words (notice.Fault f) = codes "channel " ++ (decimal f.channel ++ (codes " faulted at " ++ (address_words f.address
+    ++ (codes "h, " ++ (decimal (cause_number f.cause) ++ (codes ": " ++ cause_words f.cause))))))
 
 -- a signal is noticed with its channel
 abbrev pub signalled : ℕ → Option Signal → Option Notice

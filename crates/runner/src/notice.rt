@@ -1,6 +1,6 @@
 // Notices: what a step has to tell besides its answer.
-ghost use Rattle.std.specs.Prelude.{◌≡◌};
-ghost use Rattle.runner.specs.Notices.{blank_notice, numbers_of, notice_of, is_transfer};
+ghost use Rattle.std.specs.Prelude.{◌≡◌, Some};
+ghost use Rattle.runner.specs.Notices.{blank_notice, numbers_of, notice_words, notice_of, is_transfer};
 
 use controller::event::Event;
 use controller::fault::Fault;
@@ -48,6 +48,8 @@ impl Notice {
 }
 
 impl fmt::Display for Notice {
+    ghost output = { λ notice. Some (notice_words notice) };
+
     fn fmt<W: fmt::Write>(&self, f: &mut fmt::Formatter<W>) -> fmt::Result {
         match *self {
             Notice::Signal { channel, signal } => write!(f, "channel {channel} signalled {signal}"),
