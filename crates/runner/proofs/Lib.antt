@@ -4,3 +4,4 @@ mod Playing
 mod Running
 mod Hosting
 mod Examples
+mod Addresses

@@ -1,6 +1,6 @@
 -- Notices: what a step has to tell besides its answer.
-use Rattle.std.specs.Prelude.{ℕ, ◌^◌, ◌-◌, ◌++◌, Bool, true, false, List, [], codes, Some, None, Ok, Err, Option, Result}
-use Rattle.std.specs.Fmt.{decimal, digits, padded_integral, format_spec}
+use Rattle.std.specs.Prelude.{ℕ, ◌-◌, ◌++◌, Bool, true, false, List, codes, length, replicate, Some, None, Ok, Err, Option, Result}
+use Rattle.std.specs.Fmt.{decimal, digits}
 use Rattle.registers.specs.declared.list.Signal.{Signal}
 use Rattle.registers.specs.declared.list.Signal.TheVariants.{Eop, Irq13}
 use Rattle.controller.specs.declared.event.Event.{Event}
@@ -39,9 +39,9 @@ abbrev pub numbers_of : Notice → NoticeNumbers
 numbers_of (notice.Signal c s) = numbers_at c (signal_cause s) 0
 numbers_of (notice.Fault f) = numbers_at f.channel (cause_number f.cause) f.address
 
--- an address in eight hexadecimal digits
+-- an address in eight hexadecimal digits: zeros in front of its own
 abbrev pub address_words : ℕ → List ℕ
-address_words a = padded_integral (format_spec 32 0 4 8 (2 ^ 64 - 1)) false [] (digits 16 true a)
+address_words a = replicate (8 - length (digits 16 true a)) 48 ++ digits 16 true a
 
 -- a notice in words
 abbrev pub notice_words : Notice → List ℕ

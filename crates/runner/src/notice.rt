@@ -47,6 +47,7 @@ impl Notice {
     }
 }
 
+#[tactic(auto, using(crate::proofs::Addresses::eight_digits))]
 impl fmt::Display for Notice {
     ghost output = { λ notice. Some (notice_words notice) };
 
