@@ -72,7 +72,7 @@ read_unit Words f a = f a + f (above a) * 256
 
 -- device to memory
 abbrev pub take_in : Outside → ℕ → Addressing → ℕ → Result ℕ Fault → Outside × Result ℕ Fault
-take_in o c m a (Ok u) = (record { kinds = o.kinds; bytes = stored_unit m o.bytes a u; waiting = taken c o.waiting; kept = o.kept; free = o.free }, Ok u)
+take_in o c m a (Ok u) = (record o { bytes = stored_unit m o.bytes a u; waiting = taken c o.waiting }, Ok u)
 take_in o c m a (Err e) = (o, Err e)
 
 -- a unit, once a check has passed
@@ -86,7 +86,7 @@ wanted o c m a = and_then (presence o.kinds c m a) (with_unit (read_unit m o.byt
 
 -- memory to device
 abbrev pub give_out : Outside → ℕ → Result ℕ Fault → Outside × Result ℕ Fault
-give_out o c (Ok u) = (record { kinds = o.kinds; bytes = o.bytes; waiting = o.waiting; kept = added c u o.free o.kept; free = used c o.free }, Ok u)
+give_out o c (Ok u) = (record o { kept = added c u o.free o.kept; free = used c o.free }, Ok u)
 give_out o c (Err e) = (o, Err e)
 
 -- a transfer of one unit; verify touches neither memory nor bank

@@ -70,18 +70,7 @@ fetch_of kinds f c l = cond (nat_le most_entries l.entries) (Err (fault_of 42 c 
 
 -- the list after a fetch: the next place moves on, one entry more is counted, EOL is noted
 abbrev pub noted : Fetched → Chain → Chain
-noted x l = record {
-  pointer = l.pointer;
-  next = x.next;
-  active = l.active;
-  loaded = l.loaded;
-  reserve = l.reserve;
-  ended = x.last;
-  stopped = l.stopped;
-  entries = (l.entries + 1) % 65536;
-  signal = l.signal;
-  irq13 = l.irq13;
-}
+noted x l = record l { next = x.next; ended = x.last; entries = (l.entries + 1) % 65536 }
 
 -- an entry fills current, or the reserve if current is loaded
 abbrev pub filled : Fetched → Channel → Channel

@@ -95,7 +95,7 @@ cycle_value s g x = cond (cycle_number s g x == 0) (cycle_byte s.world x) 0
 -- a write cycle changes its one byte
 abbrev pub cycled : Cycle → Outside → Outside
 cycled (Read a) o = o
-cycled (Write a b) o = record { kinds = o.kinds; bytes = written (o.kinds a) o.bytes a b; waiting = o.waiting; kept = o.kept; free = o.free }
+cycled (Write a b) o = record o { bytes = written (o.kinds a) o.bytes a b }
 
 -- the state after a cycle under a grant
 abbrev pub after_cycle : ℕ → Cycle → State → State

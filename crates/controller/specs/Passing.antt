@@ -32,35 +32,11 @@ stepped ch = record { place = moved_place (course_of ch) ch.current.place; count
 
 -- other current registers
 abbrev pub with_current : Span → Channel → Channel
-with_current x ch = record {
-  base = ch.base;
-  current = x;
-  extended = ch.extended;
-  mode = ch.mode;
-  addressing = ch.addressing;
-  timing = ch.timing;
-  line = ch.line;
-  mask = ch.mask;
-  request = ch.request;
-  terminal = ch.terminal;
-  list = ch.list;
-}
+with_current x ch = record ch { current = x }
 
 -- the end of a plain job: terminal count, no request; autoinitialise reloads base, otherwise the mask is set
 abbrev pub plain_end : Channel → Channel
-plain_end ch = record {
-  base = ch.base;
-  current = cond ch.mode.autoinitialise ch.base ch.current;
-  extended = ch.extended;
-  mode = ch.mode;
-  addressing = ch.addressing;
-  timing = ch.timing;
-  line = ch.line;
-  mask = cond ch.mode.autoinitialise ch.mask true;
-  request = false;
-  terminal = true;
-  list = ch.list;
-}
+plain_end ch = record ch { current = cond ch.mode.autoinitialise ch.base ch.current; mask = cond ch.mode.autoinitialise ch.mask true; request = false; terminal = true }
 
 -- the registers that an entry is loaded into
 abbrev pub entry_span : Entry → Span
@@ -68,49 +44,15 @@ entry_span e = record { place = place_at Bytes e.address 0; count = e.count }
 
 -- a list with or without a current entry, and with that reserve
 abbrev pub holding : Bool → Option Entry → Chain → Chain
-holding current reserve l = record {
-  pointer = l.pointer;
-  next = l.next;
-  active = l.active;
-  loaded = current;
-  reserve = reserve;
-  ended = l.ended;
-  stopped = l.stopped;
-  entries = l.entries;
-  signal = l.signal;
-  irq13 = l.irq13;
-}
+holding current reserve l = record l { loaded = current; reserve = reserve }
 
 -- an entry becomes current: its address is extended
 abbrev pub loaded_with : Entry → Channel → Channel
-loaded_with e ch = record {
-  base = ch.base;
-  current = entry_span e;
-  extended = true;
-  mode = ch.mode;
-  addressing = ch.addressing;
-  timing = ch.timing;
-  line = ch.line;
-  mask = ch.mask;
-  request = ch.request;
-  terminal = ch.terminal;
-  list = ch.list;
-}
+loaded_with e ch = record ch { current = entry_span e; extended = true }
 
 -- a list that is over by its end: inactive, nothing loaded; where IRQ13 is selected its bit is set
 abbrev pub ended_list : Chain → Chain
-ended_list l = record {
-  pointer = l.pointer;
-  next = l.next;
-  active = false;
-  loaded = false;
-  reserve = None;
-  ended = l.ended;
-  stopped = l.stopped;
-  entries = l.entries;
-  signal = l.signal;
-  irq13 = is_irq13 l.signal || l.irq13;
-}
+ended_list l = record l { active = false; loaded = false; reserve = None; irq13 = is_irq13 l.signal || l.irq13 }
 
 -- the end of a list: terminal count, no request, masked
 abbrev pub list_end : Channel → Channel

@@ -35,15 +35,15 @@ state_of k o = record { registers = k.registers; bus = k.bus; world = o }
 
 -- other registers
 abbrev pub with_registers : Registers → State → State
-with_registers k s = record { registers = k; bus = s.bus; world = s.world }
+with_registers k s = record s { registers = k }
 
 -- another memory and other devices
 abbrev pub with_world : Outside → State → State
-with_world o s = record { registers = s.registers; bus = s.bus; world = o }
+with_world o s = record s { world = o }
 
 -- the bus elsewhere
 abbrev pub with_bus : Bus → State → State
-with_bus b s = record { registers = s.registers; bus = b; world = s.world }
+with_bus b s = record s { bus = b }
 
 -- whatever it works on, a controller's state becomes what f makes of it
 abbrev pub Becomes : Controller → Controller → (State → State) → Type 0
@@ -67,7 +67,7 @@ choice_of k = winner_of (side_group (first_side k)) (side_group (second_side k))
 
 -- the slot last chosen
 abbrev pub with_last : ℕ → Group → Group
-with_last n g = record { channels = g.channels; disabled = g.disabled; rotating = g.rotating; active_low = g.active_low; pointer = g.pointer; last = n }
+with_last n g = record g { last = n }
 
 -- a choice begins a service; the first group's slot is noted only if it chose
 abbrev pub begun : Choice → Registers → Registers

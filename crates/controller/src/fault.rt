@@ -32,7 +32,7 @@ pub enum Layer {
     Table,
 }
 
-// What was met, of which channel, and where. It has no `Display`: each program says a fault in its own words.
+// What was met, of which channel, and where. It has no `Display`: a notice and the programs each say a fault in words of their own.
 #[derive(Clone, Copy, PartialEq, Eq, Debug)]
 pub struct Fault {
     pub cause: Cause,
