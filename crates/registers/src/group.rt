@@ -86,6 +86,8 @@ impl Group {
     }
 
     // The registers of the group that touch nothing but the group.
+    // Not inlined, nor the three below: in their caller LLVM would choose between the two groups for each field.
+    #[inline(never)]
     pub(crate) fn set_control(&mut self, control: Control, value: u8)
         ensures { self.new ≡ group_written control value self.old }
     {
@@ -127,20 +129,27 @@ impl Group {
     }
 
     // The terminal count bits cleared, as a read of the status register does.
+    #[inline(never)]
     pub(crate) fn clear_terminals(&mut self)
         ensures { self.new ≡ without_terminals self.old }
     {
-        self.channels = self.channels.map(|channel| Channel {
-            terminal: false,
-            ..channel
-        });
+        // Of no bits each slot's is false. Not `map` of the array: it moves each channel four times more.
+        self.renew(
+            0,
+            |channel, terminal| Channel {
+                terminal,
+                ..channel
+            },
+        );
     }
 
     // Master clear.
+    #[inline(never)]
     pub(crate) fn clear(&mut self)
         ensures { self.new ≡ cleared_group self.old }
     {
-        *self = Group::at_rest(self.channels.map(Channel::cleared));
+        self.renew(0, |channel, _| channel.cleared());
+        *self = Group::at_rest(self.channels);
     }
 
     // A flag of each slot and its channel as a number, slot 0's as bit 0.
@@ -204,6 +213,7 @@ impl Group {
     }
 
     // The status register. The slot that cascades the other group shows 0.
+    #[inline(never)]
     pub(crate) fn status(&self, cascades: bool) -> u8
         ensures { result ≡ status_of cascades self.now }
     {
