@@ -1,5 +1,5 @@
 -- The grant that is held, against where the bus is.
-use Rattle.std.proofs.Common.{◌≡◌, ℕ, ◌<◌, true, cond, [], Some, None, Ok, Err, Option, Result, sym, refl, ap, subst, arith}
+use Rattle.std.proofs.Common.{◌≡◌, ℕ, ◌<◌, true, false, cond, [], Some, None, Ok, Err, Option, Result, sym, refl, ap, subst, arith}
 use Rattle.std.specs.Result.{IsOk}
 use Rattle.registers.specs.declared.file.Registers.{Registers}
 use Rattle.controller.specs.declared.controller.Bus.{Bus}
@@ -10,10 +10,12 @@ use Rattle.controller.specs.declared.grant.BusRefusal.TheVariants as bus
 use Rattle.memory.specs.declared.kinds.Kind.TheVariants.{Absent}
 use Rattle.memory.specs.declared.kinds.MemoryFault.TheVariants as memory
 use Rattle.controller.specs.declared.controller.Controller.{Controller}
-use Rattle.controller.specs.Outside.{Outside}
+use Rattle.controller.specs.Outside.{Outside, Does}
 use Rattle.controller.specs.Steps.{State, state_of, Becomes, with_registers, with_bus}
 use Rattle.controller.specs.Grants.{take_number, took_bus, out_to, bus_number, holds, shown_release, released}
-use Rattle.runs.specs.Calls.{Holding, granted_to}
+use Rattle.runs.specs.declared.calls.Call.{Call}
+use Rattle.runs.specs.Told.{Told}
+use Rattle.runs.specs.Calls.{Holding, granted_to, performed}
 
 -- a refusal has a number above 0
 pub refusal_shows : (e : BusRefusal) → 0 < bus_number e
@@ -29,6 +31,20 @@ nowhere = record { kinds = λ _. Absent; bytes = λ _. 0; waiting = λ _. []; ke
 -- where the bus is after what a call makes of the state
 pub bus_of : (was is : Controller) (f : State → State) → Becomes was is f → is.bus ≡ (f (state_of was nowhere)).bus
 bus_of was is f h = ap (λ (x : State). x.bus) (h nowhere)
+
+-- where no grant is held, none holds
+pub none_holds : (b : Bus) → Holding None b → (g : ℕ) → holds b g ≡ false
+none_holds Home h g = refl
+none_holds (Out c) h g = refl
+none_holds (Taken c) h g = absurd h
+
+-- a grant that holds brings the bus home again
+pub home_again : (s : State) (g : ℕ) → holds s.bus g ≡ true → (released g s).bus ≡ Home
+home_again s g h = rw h
+
+-- a call under another name for it
+pub by_call : (s t : State) (r : Told) (k j : Call) → k ≡ j → Does (performed s j) t r → Does (performed s k) t r
+by_call s t r k j e d = let P : Call → Type 0 = λ x. Does (performed s x) t r in subst P (sym e) d
 
 -- a grant that is held is for the channel that the bus is out to, and holds
 pub held_channel : (g : Grant) (b : Bus) → Holding (Some g) b → g.channel ≡ out_to b

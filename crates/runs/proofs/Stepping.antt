@@ -53,7 +53,7 @@ module _ (P : State → Type 0) (Good : ℕ → Type 0) (k : Keeps P Good) where
       let ch = channel_of s.registers c in
       settled_keeps c (service_of s c) (either_keeps s c (is_cascade ch.mode.service) (ch.list.active && not ch.list.loaded) g h)
 
-  ahead_keeps : (s : State) (o : Option ℕ) → P s → P (ahead_of s o).0
+  pub ahead_keeps : (s : State) (o : Option ℕ) → P s → P (ahead_of s o).0
   ahead_keeps s None h = h
   ahead_keeps s (Some c) h = settled_keeps c (fetch_step s c) (fills_keeps s c _ h)
 

@@ -47,7 +47,7 @@ Holding (Some g) Home = ⊥
 Holding (Some g) (Out c) = ⊥
 Holding (Some g) (Taken c) = Path.◌≡◌ g.channel c
 
--- any two proofs of that are the same, so that a session can keep one
+-- any two proofs of that are the same, so that a holder can keep one
 pub Holding-prop : (g : Option Grant) (b : Bus) → IsProp (Holding g b)
 Holding-prop None Home = Unit-prop
 Holding-prop None (Out c) = Unit-prop

@@ -2,5 +2,6 @@
 #![tactic(auto)]
 
 pub mod calls;
+mod holder;
 pub mod play;
 pub mod session;

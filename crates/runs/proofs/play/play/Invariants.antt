@@ -8,5 +8,5 @@ abbrev pub invariant-loop-i : goal.invariant-loop-i
 invariant-loop-i g l =
     let m = g.M.Memory in
     let b = g.B.PortBank in
-    Going (fresh (outside_of m b l.initial.memory l.initial.bank)) (state_of l.session.controller (outside_of m b l.memory l.bank)) l.call-items l.initial.answers l.answers l.i
+    Going (fresh (outside_of m b l.initial.memory l.initial.bank)) (state_of l.holder.controller (outside_of m b l.memory l.bank)) l.call-items l.initial.answers l.answers l.i
     × (m.fixed l.memory ≡ m.fixed l.initial.memory)

@@ -5,7 +5,7 @@ use Rattle.controller.specs.declared.inspect.Inspection.{Inspection}
 use Rattle.runs.specs.Told as told
 use Rattle.runs.proofs.Held.{keeps}
 use Rattle.runs.proofs.Buses.{step_holding}
-use Rattle.runs.proofs.session.Session.perform.Goals as goal
+use Rattle.runs.proofs.holder.Holder.perform.Goals as goal
 
 pub invariant_of-self : goal.invariant_of-self
 invariant_of-self g c = let was = c.args.self.now in record { held = keeps was.grant was.controller c.write.new.self _ c.write.ensures.state was.held }

@@ -4,7 +4,7 @@ use Rattle.controller.specs.Grants.{out_to}
 use Rattle.runs.specs.Calls.{Holding}
 use Rattle.runs.specs.Told as told
 use Rattle.runs.proofs.Held.{held_channel}
-use Rattle.runs.proofs.session.Session.cycle.Goals as goal
+use Rattle.runs.proofs.holder.Holder.cycle.Goals as goal
 
 pub returns-in-Some-clause-does : goal.returns-in-Some-clause-does
 returns-in-Some-clause-does g c = λ o.

@@ -2,7 +2,7 @@ use Rattle.std.proofs.Common.{◌∙◌, ap₂}
 use Rattle.std.proofs.lemmas.Result.{err_from_is_err_and}
 use Rattle.runs.specs.Told as told
 use Rattle.runs.proofs.Held.{taken, not_taken}
-use Rattle.runs.proofs.session.Session.take.Goals as goal
+use Rattle.runs.proofs.holder.Holder.take.Goals as goal
 
 pub invariant_of-self : goal.invariant_of-self
 invariant_of-self c =
