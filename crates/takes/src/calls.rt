@@ -1,7 +1,6 @@
 // The calls of the two scenes.
 use controller::grant::Cycle;
 use runs::calls::Call;
-use std::alloc::{AllocError, Global};
 use std::array;
 
 fn out(port: u16, value: u8) -> Call {
@@ -9,8 +8,10 @@ fn out(port: u16, value: u8) -> Call {
 }
 
 /// Channel 1 records eight bytes at 010000h; channel 5 plays four words from 020000h.
-pub(crate) fn record_and_play(alloc: Global) -> Result<Vec<Call>, AllocError> {
-    let mut calls = vec![in alloc;
+// An array, here and below: the calls take no memory from a heap. What is not written is a step.
+pub(crate) fn record_and_play() -> [Call; 32] {
+    let mut calls = [Call::Step; 32];
+    calls[..19].copy_from_slice(&[
         // channel 1: masked, single, device to memory, address 0000h, page 01h, eight transfers
         out(0x0A, 0x05),
         out(0x0C, 0x00),
@@ -33,14 +34,13 @@ pub(crate) fn record_and_play(alloc: Global) -> Result<Vec<Call>, AllocError> {
         out(0xD4, 0x01),
         out(0x0A, 0x01),
         Call::Lines { bits: 0x22 },
-    ]?;
-    calls.extend_from_slice(&[Call::Step; 13])?;
-    Ok(calls)
+    ]);
+    calls
 }
 
 /// A bus master on channel 6 writes a list of two entries; channel 0 runs it while channel 7 verifies.
-pub(crate) fn share_the_bus(alloc: Global) -> Result<Vec<Call>, AllocError> {
-    let mut calls = vec![in alloc;
+pub(crate) fn share_the_bus() -> [Call; 64] {
+    let master = [
         // channel 6 cascades a bus master, whose line is active
         out(0xD6, 0xC2),
         out(0xD4, 0x00),
@@ -50,10 +50,10 @@ pub(crate) fn share_the_bus(alloc: Global) -> Result<Vec<Call>, AllocError> {
         Call::Step,
         Call::Take,
         Call::Take,
-    ]?;
-    calls.extend_from_slice(&entry(0x0001_0100, 1, false, 0x0001_0000))?;
-    calls.extend_from_slice(&entry(0x0001_0200, 0, true, 0x0001_0008))?;
-    calls.extend_from_slice(&[
+    ];
+    let first = entry(0x0001_0100, 1, false, 0x0001_0000);
+    let second = entry(0x0001_0200, 0, true, 0x0001_0008);
+    let list = [
         read_cycle(0x0001_000F),
         write_cycle(0x0002_0000, 0xFF),
         read_cycle(0x0001_0800),
@@ -74,9 +74,9 @@ pub(crate) fn share_the_bus(alloc: Global) -> Result<Vec<Call>, AllocError> {
         out(0xD4, 0x03),
         out(0x0A, 0x00),
         Call::Lines { bits: 0x81 },
-    ])?;
-    calls.extend_from_slice(&[Call::Step; 10])?;
-    calls.extend_from_slice(&[
+    ];
+    let steps = [Call::Step; 10];
+    let end = [
         Call::Read { port: 0x418 },
         Call::Read { port: 0x40A },
         Call::Read { port: 0x08 },
@@ -89,8 +89,19 @@ pub(crate) fn share_the_bus(alloc: Global) -> Result<Vec<Call>, AllocError> {
         Call::Release,
         Call::Step,
         Call::Step,
-    ])?;
-    Ok(calls)
+    ];
+    let parts = master
+        .iter()
+        .chain(&first)
+        .chain(&second)
+        .chain(&list)
+        .chain(&steps)
+        .chain(&end);
+    let mut calls = [Call::Step; 64];
+    for (call, part) in calls.iter_mut().zip(parts) {
+        *call = *part;
+    }
+    calls
 }
 
 /// The write cycles that put an entry of a list into memory: its address, its count, and bit 63 if it is the last.

@@ -75,8 +75,8 @@ pub(crate) fn record_and_play(rt: &HostRuntime) -> io::Result<()> {
         no_device(),
         no_device(),
     );
-    let calls = calls::record_and_play(rt.alloc())?;
-    let mut answers = vec![in rt.alloc(); Answer::Release(Ok(())); calls.len()]?;
+    let calls = calls::record_and_play();
+    let mut answers = [Answer::Release(Ok(())); 32];
     let Played { count: _, session } = play(&mut memory, &mut bank, &calls, &mut answers);
     session.end();
     print_calls(rt, &calls, &answers)?;
@@ -104,8 +104,8 @@ pub(crate) fn share_the_bus(rt: &HostRuntime) -> io::Result<()> {
         no_device(),
         no_device(),
     );
-    let calls = calls::share_the_bus(rt.alloc())?;
-    let mut answers = vec![in rt.alloc(); Answer::Release(Ok(())); calls.len()]?;
+    let calls = calls::share_the_bus();
+    let mut answers = [Answer::Release(Ok(())); 64];
     let Played { count: _, session } = play(&mut memory, &mut bank, &calls, &mut answers);
     session.end();
     print_calls(rt, &calls, &answers)?;
