@@ -11,9 +11,9 @@ use Rattle.controller.specs.Faults.{cause_number, cause_words}
 use Rattle.runner.specs.declared.notice.Notice.{Notice}
 use Rattle.runner.specs.declared.notice.Notice.TheVariants as notice
 
--- a blank notice, which no step gives: EOP of channel 0
+-- a blank notice, which no step gives: EOP of channel 4, which carries nothing
 abbrev pub blank_notice : Notice
-blank_notice = notice.Signal 0 Eop
+blank_notice = notice.Signal 4 Eop
 
 -- a notice by its numbers, as a script's answer shows it
 pub record NoticeNumbers : Type 0 where

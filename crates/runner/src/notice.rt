@@ -18,9 +18,10 @@ pub enum Notice {
 impl Blank for Notice {
     ghost blank_of = { blank_notice };
 
+    // Channel 4 carries nothing and so signals nothing: what stands in a freed cell is no notice of a step.
     fn blank() -> Notice {
         Notice::Signal {
-            channel: 0,
+            channel: 4,
             signal: Signal::Eop,
         }
     }
@@ -28,7 +29,7 @@ impl Blank for Notice {
 
 impl Notice {
     /// The channel, the cause's number and the address; a signal's address is 0.
-    pub(crate) fn numbers(self) -> (u8, u8, u32)
+    pub fn numbers(self) -> (u8, u8, u32)
         ensures channel { result.0 ≡ (numbers_of self).channel }
         ensures cause { result.1 ≡ (numbers_of self).cause }
         ensures address { result.2 ≡ (numbers_of self).address }
