@@ -1,7 +1,7 @@
 -- Eight addresses: the least of their kinds, and bytes written there in turn.
 use Rattle.std.proofs.Common.{◌≡◌, ℕ, zero, suc, ◌+◌, ◌-◌, ◌<◌, List, [], ◌∷◌, ◌++◌, length, get_or, drop, slice_index, Ok, Err, Result, sym, refl, ap, ◌∙◌, ⊎_elim, arith}
 use Rattle.std.proofs.lemmas.Bool.{cases_eq}
-use Rattle.std.proofs.lemmas.List.{drop_more}
+use Rattle.std.proofs.lemmas.List.{drop_more, length-drop}
 use Rattle.std.proofs.lemmas.List.Sums.{fold_push}
 use Rattle.std.proofs.lemmas.Bool.Decides.{nat_tests}
 use Rattle.memory.specs.declared.kinds.Kind.{Kind}
@@ -68,6 +68,12 @@ not_refused {k} {m} {x} {r} {e} same h answer was =
     let there : m x ≡ Writable = ap (λ f. f x) same ∙ h in
     let ok : r ≡ Ok tt = answer ∙ ap write_of there in
     let z : ◌≡◌ {A = ℕ} 0 1 = cc in
+    omega arith
+
+-- where something is left of a list, its end is not reached
+pub left_within : (xs ys : List ℕ) (n x : ℕ) → drop n xs ≡ x ∷ ys → n < length xs
+left_within xs ys n x e =
+    let l : length xs - n ≡ suc (length ys) = sym (length-drop n xs) ∙ ap length e in
     omega arith
 
 -- the first that is left of a list, and what is left after it

@@ -9,6 +9,6 @@ invariant-loop-offset g l = record {
   bytes : g.N.Memory.byte_at l.memory ≡ spread (g.N.Memory.byte_at l.initial.memory) l.address l.offset-iterator.a.start l.fn.bytes;
   stays : g.N.Memory.fixed l.memory ≡ g.N.Memory.fixed l.initial.memory;
   few : l.offset-iterator.a.start ≤ 8;
-  end : l.offset-iterator.a.end ≡ 8;
+  end : 8 ≤ l.offset-iterator.a.end;
   rest : l.offset-iterator.b.rest.now ≡ drop l.offset-iterator.a.start l.fn.bytes;
 }
