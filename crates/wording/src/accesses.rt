@@ -1,6 +1,6 @@
 // What a driver writes and reads.
 use crate::channels::Channels;
-use crate::ports::PortName;
+use crate::names::PortName;
 use crate::values::{say_asked, say_shown};
 use registers::ports::{read_port, write_port};
 use std::fmt;
