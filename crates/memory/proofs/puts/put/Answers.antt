@@ -24,4 +24,4 @@ loop-offset-preserved g c =
     let h = all_writable (g.N.Memory.kind_at c.args.memory.now) c.args.address 8 (search rules) c.in-Some.offset (omega (arith, c.in-Some.ensures, within)) in
     let left = drop_next c.args.bytes c.next.new.self.b.rest.now c.loop-offset.offset-iterator.a.start c.in-Some.byte.now here within in
     let more = spread_more (g.N.Memory.byte_at c.args.memory.now) c.args.address c.loop-offset.offset-iterator.a.start c.in-Some.byte.now c.args.bytes left.0 in
-    record { kinds = search rules; bytes = search (rules, h, more); stays = search rules; few = omega (arith, c.in-Some.ensures, within); end = search rules; rest = search (rules, left) }
+    record { kinds = search rules; bytes = search (rules, h, more); stays = search rules; few = omega (arith, c.in-Some.ensures, within); end = search rules; same = search rules; rest = search (rules, left) }

@@ -1,4 +1,4 @@
--- So many of the bytes are written, and nothing else is changed.
+-- So many of the bytes are written, and nothing else is changed; the range ends where it did when the loop began.
 use Rattle.std.proofs.Common.{◌≡◌, ◌≤◌, drop}
 use Rattle.memory.specs.Puts.{spread}
 use Rattle.memory.proofs.puts.put.Given as goal
@@ -10,5 +10,6 @@ invariant-loop-offset g l = record {
   stays : g.N.Memory.fixed l.memory ≡ g.N.Memory.fixed l.initial.memory;
   few : l.offset-iterator.a.start ≤ 8;
   end : 8 ≤ l.offset-iterator.a.end;
+  same : l.offset-iterator.a.end ≡ l.initial.offset-iterator.a.end;
   rest : l.offset-iterator.b.rest.now ≡ drop l.offset-iterator.a.start l.fn.bytes;
 }
